@@ -1,0 +1,155 @@
+//! What both workings of document 01 are asked: the calls in plain slices, their answers, and the state.
+//!
+//! A refusal is `Err(number)`. Lent slices may be longer than needed; the surplus is not touched. Every call that
+//! takes a state hands one back.
+
+/// What a store holds below its diagonal and in l_diag.
+#[derive(Clone, Copy, PartialEq, Eq, Debug)]
+pub enum Held {
+    Empty,
+    Nothing,
+    Zero,
+    Damped,
+}
+
+#[derive(Clone, Copy, PartialEq, Eq, Debug)]
+pub struct State {
+    pub m: usize,
+    pub n: usize,
+    pub held: Held,
+}
+
+pub const EMPTY: State = State {
+    m: 0,
+    n: 0,
+    held: Held::Empty,
+};
+
+/// Which scaling call is meant: the first alone reads `x` and the step bound, and gives xnorm and radius.
+#[derive(Clone, Copy, PartialEq, Eq, Debug)]
+pub enum Mode {
+    FirstScaled,
+    FirstUnscaled,
+    LaterScaled,
+    LaterUnscaled,
+}
+
+/// The answer of a first scaling.
+#[derive(Clone, Copy, PartialEq, Debug)]
+pub struct Start {
+    pub xnorm: f64,
+    pub radius: f64,
+}
+
+/// The answer of a search; the step goes to the lent output.
+#[derive(Clone, Copy, PartialEq, Debug)]
+pub struct Found {
+    pub lambda: f64,
+    pub norm: f64,
+    pub trials: usize,
+}
+
+/// The leaves of document 01, each alone.
+pub trait Leaves {
+    fn abs(&self, x: f64) -> f64;
+    fn is_negative(&self, x: f64) -> bool;
+    fn is_finite(&self, x: f64) -> bool;
+    fn max(&self, a: f64, b: f64) -> f64;
+    fn min(&self, a: f64, b: f64) -> f64;
+    fn square(&self, x: f64) -> f64;
+    fn sqrt(&self, x: f64) -> f64;
+    /// 3 where the lengths differ.
+    fn dot(&self, a: &[f64], b: &[f64]) -> Result<f64, u8>;
+    /// a*x + y, into y; 3 where the lengths differ, y unwritten.
+    fn axpy(&self, a: f64, x: &[f64], y: &mut [f64]) -> Result<(), u8>;
+    /// a*x, into y (last factor 0); 3 where the lengths differ, y unwritten.
+    fn axpy_zero(&self, a: f64, x: &[f64], y: &mut [f64]) -> Result<(), u8>;
+    /// 3 for none.
+    fn imax(&self, v: &[f64]) -> Result<usize, u8>;
+    /// 2 over 128 numbers.
+    fn enorm(&self, v: &[f64]) -> Result<f64, u8>;
+    /// The first `n` of `x` become the solution of the upper triangle of a square of columns `apart` places apart;
+    /// 3 where n is over `apart`, `x` is shorter than n, or the square is shorter than n columns. Otherwise the
+    /// surplus of `x` is not touched.
+    fn solve_upper(&self, r: &[f64], apart: usize, n: usize, x: &mut [f64]) -> Result<(), u8>;
+}
+
+/// The calls of document 01 over lent rooms.
+#[allow(clippy::too_many_arguments)]
+pub trait Engine {
+    fn factor(
+        &self,
+        m: usize,
+        n: usize,
+        jacobian: &[f64],
+        residuals: &[f64],
+        store: &mut [f64],
+        order: &mut [usize],
+        bench: &mut [f64],
+    ) -> (Result<(), u8>, State);
+    fn solve_with_zero_diagonal(
+        &self,
+        state: State,
+        store: &mut [f64],
+        order: &[usize],
+        out: &mut [f64],
+    ) -> (Result<(), u8>, State);
+    fn solve_with_diagonal(
+        &self,
+        state: State,
+        store: &mut [f64],
+        order: &[usize],
+        diag: &[f64],
+        out: &mut [f64],
+    ) -> (Result<(), u8>, State);
+    /// The held call `solve` of `CholeskyFactor`.
+    fn solve(
+        &self,
+        state: State,
+        store: &mut [f64],
+        order: &[usize],
+        rhs: &[f64],
+        out: &mut [f64],
+    ) -> (Result<(), u8>, State);
+    /// The held call `mul_qt_b` of `CholeskyFactor`. It takes no order list.
+    fn mul_qt_b(&self, state: State, store: &mut [f64], out: &mut [f64]) -> (Result<(), u8>, State);
+    fn max_a_t_b_scaled(
+        &self,
+        state: State,
+        store: &mut [f64],
+        order: &[usize],
+        b_norm: f64,
+    ) -> (Result<f64, u8>, State);
+    fn a_x_norm(
+        &self,
+        state: State,
+        store: &mut [f64],
+        order: &[usize],
+        x: &[f64],
+    ) -> (Result<f64, u8>, State);
+    /// The scaling part of `update_diag`. `Some` from a first call alone. Short `diag` is 3 in every mode, short `x`
+    /// in the first modes alone.
+    fn update_diag(
+        &self,
+        state: State,
+        store: &mut [f64],
+        mode: Mode,
+        diag: &mut [f64],
+        x: &[f64],
+        step_bound: f64,
+    ) -> (Result<Option<Start>, u8>, State);
+    fn search(
+        &self,
+        state: State,
+        store: &mut [f64],
+        order: &[usize],
+        diag: &[f64],
+        radius: f64,
+        lambda: f64,
+        out: &mut [f64],
+    ) -> (Result<Found, u8>, State);
+    fn determined(&self, state: State, store: &mut [f64]) -> (Result<usize, u8>, State);
+    fn is_non_singular(&self, state: State, store: &mut [f64]) -> (Result<bool, u8>, State);
+    /// What `fitstep` prints for a sheet.
+    fn sheet(&self, bytes: &[u8]) -> String;
+}
