@@ -153,3 +153,68 @@ pub trait Engine {
     /// What `fitstep` prints for a sheet.
     fn sheet(&self, bytes: &[u8]) -> String;
 }
+
+/// One trial of a search: a damped solve and what follows from it.
+#[derive(Clone, Copy, Debug)]
+pub struct Trial {
+    pub lambda: f64,
+    pub norm: f64,
+    /// Not worked out in trial ten.
+    pub fp: Option<f64>,
+    /// The bounds in force while the trial ran.
+    pub lower: f64,
+    pub upper: f64,
+    /// Scaling times the root of lambda held a number that is not finite.
+    pub infinite_damping: bool,
+    /// The held solve for the correction gave a number that is not finite.
+    pub infinite_solve: bool,
+}
+
+/// The rule that ended an answered search, in document 01's order.
+#[derive(Clone, Copy, PartialEq, Eq, Debug)]
+pub enum Stop {
+    Undamped,
+    Ten,
+    Within,
+    Falling,
+}
+
+/// Where a search was refused 8, in document 01's order.
+#[derive(Clone, Copy, PartialEq, Eq, Debug)]
+pub enum Place {
+    UndampedNorm,
+    LowerBound,
+    Gnorm,
+    Lambda,
+    TrialNorm,
+    Correction,
+}
+
+#[derive(Clone, Copy, PartialEq, Eq, Debug)]
+pub enum End {
+    Stopped(Stop),
+    Refused(Place),
+}
+
+/// A whole search that got past its input checks.
+#[derive(Clone, Debug)]
+pub struct Run {
+    pub undamped_norm: f64,
+    /// The held solve for the lower bound gave a number that is not finite.
+    pub infinite_first_solve: bool,
+    pub trials: Vec<Trial>,
+    pub end: End,
+}
+
+pub trait Traced {
+    /// `None` where the search is refused 2 to 7.
+    fn run(
+        &self,
+        state: State,
+        store: &[f64],
+        order: &[usize],
+        diag: &[f64],
+        radius: f64,
+        lambda: f64,
+    ) -> Option<Run>;
+}
