@@ -1,0 +1,8 @@
+-- Laws that belong to no one function.
+pub mod Signs
+pub mod Sides
+pub mod Folds
+pub mod Norms
+pub mod Triangles
+pub mod Replies
+pub mod Unique

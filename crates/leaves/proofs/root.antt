@@ -1,0 +1,11 @@
+-- Laws of the square root, in the order in which they build on each other.
+pub mod Digits
+pub mod Raising
+pub mod Whole
+pub mod Scaled
+pub mod Floats
+pub mod Patterns
+pub mod Bounds
+pub mod Meets
+pub mod Guess
+pub mod Quarter

@@ -1,0 +1,123 @@
+-- What the tests of `root` say of x, and what its pattern is. Assumes nothing.
+use mathlib.Core.Path.{_≡_, refl, sym, ap, _∙_, subst}
+use mathlib.Core.Bool.{Bool, true, false, not, _&&_, _||_, Bool·beq, cond, true≢false, false≢true}
+use mathlib.Core.Logic.{_⊎_, inl, inr}
+use Prim.Native.Nat.{ℕ, zero, suc, _+_, _-_, _*_, _/_, _%_, _^_, _≤_, _<_}
+use native.Mathlib.Nat.{zero-mul, zero-lt-suc, mul-pos, mul-div-cancel, mul-one, eq-or-lt-of-le, le-of-suc-le-suc, lt-irrefl}
+use native.Mathlib.Omega.{arith}
+use lib.IntN.{ℤ, pos, negsuc}
+use lib.Dec.{T, leb, ltb, eqb, lt→ltb, ltb→lt, eqb→eq, eqb-refl, nleb→lt, not-T}
+use lib.Arith.{lt→nleb}
+use lib.Ieee.{Float, nan, inf, fin, Format, binary64, up, down, below, level, odd, ne, eq, lt, div, fits, isNan, ofFields, ofBits, nanBits, toBits}
+use lib.Ieee.Fits.{up-pos, down-pos, eq→eqb}
+use lib.Ieee.Exact.{HasValue, odd-sign}
+use lib.Ieee.Compare.{differs-from-itself}
+use lib.Ieee.Bits.{is-true, is-false, cond-no, ofBits-toBits, toBits-lt, nanBits-is}
+use Rattle.leaves.specs.Root.{rootS, nearRoot, scaled, halfExp, magnitude, packed, unitsOf}
+use Rattle.leaves.proofs.root.Scaled.{magnitude-low, magnitude-high}
+
+to-T : {b : Bool} → b ≡ true → T b
+to-T e = subst T (sym e) tt
+
+-- the literal `0.0`, as MIR has it
+abbrev pub nought : Float
+nought = ofBits binary64 0
+
+nought-is : nought ≡ fin false 0 (pos 0)
+unfolding ofBits
+nought-is = refl
+
+-- ---- x != x
+
+pub nan-root : (x : Float) → ne x x ≡ true → x ≡ rootS x
+unfolding rootS
+nan-root x t = let e : x ≡ nan = differs-from-itself x (to-T t) in rw e
+
+pub no-nan : (x : Float) → ne x x ≡ false → T (not (isNan x))
+unfolding ne isNan
+no-nan nan t = absurd (true≢false t)
+no-nan (inf s) t = tt
+no-nan (fin s m e) t = tt
+
+-- ---- x == 0.0 and x < 0.0
+
+pos-size : (m : ℕ) (e : ℤ) → 0 < suc m * up e * 1
+pos-size m e = mul-pos (mul-pos (zero-lt-suc m) (up-pos e)) (zero-lt-suc 0)
+
+zero-size : (p : ℕ) → 0 * p * 1 ≡ 0
+zero-size p = omega arith
+
+level-says : (s : Bool) (a b : ℕ) → level s a false b ≡ true → a ≡ b
+level-says s a b t = eqb→eq a b (first (eqb a b) (Bool·beq s false || eqb a 0) (to-T t))
+  where
+    first : (p q : Bool) → T (p && q) → T p
+    first true q u = tt
+    first false q u = u
+
+zero-root-at : (x : Float) → eq x (fin false 0 (pos 0)) ≡ true → x ≡ rootS x
+unfolding eq rootS
+zero-root-at nan t = refl
+zero-root-at (inf s) t = absurd (false≢true t)
+zero-root-at (fin s zero e) t = refl
+zero-root-at (fin s (suc m) e) t = absurd (no (level-says s (suc m * up e * 1) (0 * down e) t))
+  where
+    no : suc m * up e * 1 ≡ 0 * down e → ⊥
+    no q = omega (arith, pos-size m e)
+
+pub zero-root : (x : Float) → eq x nought ≡ true → x ≡ rootS x
+zero-root x t = zero-root-at x (ap (λ (y : Float). eq x y) (sym nought-is) ∙ t)
+
+below-root-at : (x : Float) → lt x (fin false 0 (pos 0)) ≡ true → nan ≡ rootS x
+unfolding lt rootS
+below-root-at nan t = refl
+below-root-at (inf true) t = refl
+below-root-at (inf false) t = absurd (false≢true t)
+below-root-at (fin true zero e) t = absurd (no (ltb→lt 0 (0 * up e * 1 + 0 * down e) (to-T t)))
+  where
+    no : 0 < 0 * up e * 1 + 0 * down e → ⊥
+    no q = omega arith
+below-root-at (fin false zero e) t = absurd (no (ltb→lt (0 * up e * 1) (0 * down e) (to-T t)))
+  where
+    no : 0 * up e * 1 < 0 * down e → ⊥
+    no q = omega arith
+below-root-at (fin true (suc m) e) t = refl
+below-root-at (fin false (suc m) e) t = absurd (no (ltb→lt (suc m * up e * 1) (0 * down e) (to-T t)))
+  where
+    no : suc m * up e * 1 < 0 * down e → ⊥
+    no q = omega arith
+
+div-is : div binary64 nought nought ≡ nan
+unfolding div ofBits
+div-is = refl
+
+pub below-root : (x : Float) → lt x nought ≡ true → div binary64 nought nought ≡ rootS x
+below-root x t = div-is ∙ below-root-at x (ap (λ (y : Float). lt x y) (sym nought-is) ∙ t)
+
+-- ---- what is left: +infinity, and the finite values above zero
+
+abbrev pub Above : Float → Type 0
+Above nan = ⊥
+Above (inf true) = ⊥
+Above (inf false) = Unit
+Above (fin true m e) = ⊥
+Above (fin false m e) = 0 < m
+
+zero-level : (s : Bool) (a b : ℕ) → a ≡ 0 → b ≡ 0 → T (level s a false b)
+zero-level true a b p q = rw (p, q) tt
+zero-level false a b p q = rw (p, q) tt
+
+above-at : (x : Float) → ne x x ≡ false → eq x (fin false 0 (pos 0)) ≡ false → lt x (fin false 0 (pos 0)) ≡ false → Above x
+unfolding ne eq lt
+above-at nan n z l = absurd (true≢false n)
+above-at (inf true) n z l = absurd (true≢false l)
+above-at (inf false) n z l = tt
+above-at (fin true zero e) n z l = absurd (true≢false (sym (is-true _ (zero-level true (0 * up e * 1) (0 * down e) (zero-size (up e)) (zero-mul (down e)))) ∙ z))
+above-at (fin true (suc m) e) n z l = absurd (true≢false (sym (is-true _ (lt→ltb 0 (suc m * up e * 1 + 0 * down e) (more (pos-size m e)))) ∙ l))
+  where
+    more : 0 < suc m * up e * 1 → 0 < suc m * up e * 1 + 0 * down e
+    more q = omega arith
+above-at (fin false zero e) n z l = absurd (true≢false (sym (is-true _ (zero-level false (0 * up e * 1) (0 * down e) (zero-size (up e)) (zero-mul (down e)))) ∙ z))
+above-at (fin false (suc m) e) n z l = zero-lt-suc m
+
+pub is-above : (x : Float) → ne x x ≡ false → eq x nought ≡ false → lt x nought ≡ false → Above x
+is-above x n z l = above-at x n (ap (λ (y : Float). eq x y) (sym nought-is) ∙ z) (ap (λ (y : Float). lt x y) (sym nought-is) ∙ l)

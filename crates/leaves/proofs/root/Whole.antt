@@ -1,0 +1,140 @@
+-- The whole root and the nearest whole number, of the definitions in `specs/Root.antt`. Assumes nothing.
+use mathlib.Core.Path.{_≡_, refl, sym, ap, _∙_, subst}
+use mathlib.Core.Bool.{Bool, true, false, not, cond}
+use mathlib.Core.Logic.{_⊎_, inl, inr}
+use Prim.Native.Nat.{ℕ, zero, suc, _+_, _-_, _*_, _/_, _%_, _^_, _≤_, _<_}
+use native.Mathlib.Nat.{pow-suc, le-antisymm, lt-of-not-le, le-of-suc-le-suc, mul-le-mul, lt-irrefl, lt-of-lt-of-le, le-trans, eq-or-lt-of-le}
+use native.Mathlib.Omega.{arith}
+use lib.Dec.{T, leb, ltb, leb→le, nleb→lt, ltb→lt, nltb→le, lt→ltb}
+use lib.Arith.{le→nltb}
+use lib.Ieee.Bits.{is-true, is-false}
+use Rattle.leaves.specs.Root.{isqrt, nearRoot}
+use Rattle.leaves.specs.Parts.{Rooted}
+
+-- w is the whole part of √n
+abbrev pub IsRoot : ℕ → ℕ → Type 0
+IsRoot n w = (w * w ≤ n) × (n < (w + 1) * (w + 1))
+
+pub isqrt-is : (d n : ℕ) → n < 4 ^ d → IsRoot n (isqrt d n)
+unfolding isqrt
+isqrt-is zero n h = omega arith
+isqrt-is (suc d) n h = go (isqrt d (n / 4)) (isqrt-is d (n / 4) (omega (arith, pow-suc 4 d)))
+  where
+    pick : (w : ℕ) (b : Bool) → (T b → (2 * w + 1) * (2 * w + 1) ≤ n) → (T (not b) → n < (2 * w + 1) * (2 * w + 1)) → IsRoot (n / 4) w → IsRoot n (cond b (2 * w + 1) (2 * w))
+    pick w true p q r = let a = p tt in omega (arith, a, r .0, r .1)
+    pick w false p q r = let a = q tt in omega (arith, a, r .0, r .1)
+
+    go : (w : ℕ) → IsRoot (n / 4) w → IsRoot n (cond (leb ((2 * w + 1) * (2 * w + 1)) n) (2 * w + 1) (2 * w))
+    go w r = pick w (leb ((2 * w + 1) * (2 * w + 1)) n) (leb→le ((2 * w + 1) * (2 * w + 1)) n) (nleb→lt ((2 * w + 1) * (2 * w + 1)) n) r
+
+-- of a square at most n and the next square above n, the roots are in order
+pub roots-le : (a b n : ℕ) → a * a ≤ n → n < (b + 1) * (b + 1) → a ≤ b
+roots-le a b n p q = le-of-suc-le-suc (lt-of-not-le (λ (g : suc b ≤ a). no (mul-le-mul (more g) (more g))))
+  where
+    more : suc b ≤ a → b + 1 ≤ a
+    more g = omega arith
+
+    no : (b + 1) * (b + 1) ≤ a * a → ⊥
+    no g = lt-irrefl n (lt-of-lt-of-le q (le-trans g p))
+
+pub root-unique : (a b n : ℕ) → IsRoot n a → IsRoot n b → a ≡ b
+root-unique a b n p q = le-antisymm (roots-le a b n (p .0) (q .1)) (roots-le b a n (q .0) (p .1))
+
+rooted-is : (n w rem : ℕ) → Rooted n w rem → IsRoot n w
+rooted-is n w rem r = omega (arith, r .square, r .left)
+
+nearRoot-is : (n : ℕ) → nearRoot n ≡ cond (ltb (isqrt 53 n * isqrt 53 n + isqrt 53 n) n) (isqrt 53 n + 1) (isqrt 53 n)
+unfolding nearRoot
+nearRoot-is n = refl
+
+module _ (v w rem : ℕ) (r : Rooted (v * 2 ^ 52) w rem) (h : v + 1 < 2 ^ 54) where
+  the-floor : isqrt 53 (v * 2 ^ 52) ≡ w
+  the-floor = root-unique (isqrt 53 (v * 2 ^ 52)) w (v * 2 ^ 52) (isqrt-is 53 (v * 2 ^ 52) (omega arith)) (rooted-is (v * 2 ^ 52) w rem r)
+
+  by-floor : nearRoot (v * 2 ^ 52) ≡ cond (ltb (w * w + w) (v * 2 ^ 52)) (w + 1) w
+  by-floor = nearRoot-is (v * 2 ^ 52) ∙ ap (λ (x : ℕ). cond (ltb (x * x + x) (v * 2 ^ 52)) (x + 1) x) the-floor
+
+  pub near-up : w < rem → w + 1 ≡ nearRoot (v * 2 ^ 52)
+  near-up l =
+      sym (by-floor ∙ ap (λ (b : Bool). cond b (w + 1) w) (is-true (ltb (w * w + w) (v * 2 ^ 52)) (lt→ltb (w * w + w) (v * 2 ^ 52) (omega (arith, r .square)))))
+
+  pub near-down : rem ≤ w → w ≡ nearRoot (v * 2 ^ 52)
+  near-down l =
+      sym (by-floor ∙ ap (λ (b : Bool). cond b (w + 1) w) (is-false (ltb (w * w + w) (v * 2 ^ 52)) (le→nltb (w * w + w) (v * 2 ^ 52) (omega (arith, r .square)))))
+
+  pub floor-low : 2 ^ 52 ≤ v → 2 ^ 52 ≤ w
+  floor-low l = roots-le (2 ^ 52) w (v * 2 ^ 52) (omega arith) (rooted-is (v * 2 ^ 52) w rem r .1)
+
+  pub up-high : w < rem → w + 1 < 2 ^ 53
+  up-high l = go (eq-or-lt-of-le (r .small))
+    where
+      no : w ≡ 2 ^ 53 - 1 → ⊥
+      no e = omega (arith, (subst (λ (x : ℕ). x * x + rem ≡ v * 2 ^ 52) e (r .square)))
+
+      last : suc w ≡ 2 ^ 53 → w ≡ 2 ^ 53 - 1
+      last e = omega arith
+
+      go : (suc w ≡ 2 ^ 53) ⊎ (suc w < 2 ^ 53) → w + 1 < 2 ^ 53
+      go (inl e) = absurd (no (last e))
+      go (inr k) = omega arith
+
+-- ---- the nearest whole number, of `nearRoot` alone
+
+rooted-of : (v : ℕ) → v + 1 < 2 ^ 54 → Rooted (v * 2 ^ 52) (isqrt 53 (v * 2 ^ 52)) (v * 2 ^ 52 - isqrt 53 (v * 2 ^ 52) * isqrt 53 (v * 2 ^ 52))
+rooted-of v h = go (isqrt 53 (v * 2 ^ 52)) (isqrt-is 53 (v * 2 ^ 52) (omega arith))
+  where
+    go : (w : ℕ) → IsRoot (v * 2 ^ 52) w → Rooted (v * 2 ^ 52) w (v * 2 ^ 52 - w * w)
+    go w i = record {
+      square = omega (arith, i .0);
+      left = omega (arith, i .1);
+      small = below w (roots-le w (2 ^ 53 - 1) (v * 2 ^ 52) (i .0) (omega arith));
+    }
+      where
+        below : (w : ℕ) → w ≤ 2 ^ 53 - 1 → w < 2 ^ 53
+        below w l = omega arith
+
+pub near-bounds : (v : ℕ) → 2 ^ 52 ≤ v → v + 1 < 2 ^ 54 → (2 ^ 52 ≤ nearRoot (v * 2 ^ 52)) × (nearRoot (v * 2 ^ 52) < 2 ^ 53)
+near-bounds v l h = go (isqrt 53 (v * 2 ^ 52)) (v * 2 ^ 52 - isqrt 53 (v * 2 ^ 52) * isqrt 53 (v * 2 ^ 52)) (rooted-of v h)
+  where
+    go : (w rem : ℕ) → Rooted (v * 2 ^ 52) w rem → (2 ^ 52 ≤ nearRoot (v * 2 ^ 52)) × (nearRoot (v * 2 ^ 52) < 2 ^ 53)
+    go w rem r = pick (ltb w rem) (ltb→lt w rem) (nltb→le w rem)
+      where
+        pick : (b : Bool) → (T b → w < rem) → (T (not b) → rem ≤ w) → (2 ^ 52 ≤ nearRoot (v * 2 ^ 52)) × (nearRoot (v * 2 ^ 52) < 2 ^ 53)
+        pick true p q = omega (arith, near-up v w rem r h (p tt), floor-low v w rem r h l, up-high v w rem r h (p tt))
+        pick false p q = omega (arith, near-down v w rem r h (q tt), floor-low v w rem r h l, r .small)
+
+-- q is the whole number nearest to √n, and there is no tie
+abbrev pub Closest : ℕ → ℕ → Type 0
+Closest n q = ((2 * q - 1) * (2 * q - 1) < 4 * n) × (4 * n < (2 * q + 1) * (2 * q + 1))
+
+pub near-closest : (n : ℕ) → 0 < n → n < 4 ^ 53 → Closest n (nearRoot n)
+near-closest n p h = rw (nearRoot-is n) (go (isqrt 53 n) (isqrt-is 53 n h))
+  where
+    pick : (w : ℕ) (b : Bool) → (T b → w * w + w < n) → (T (not b) → n ≤ w * w + w) → IsRoot n w → Closest n (cond b (w + 1) w)
+    pick w true u d i =
+        let a = u tt in
+        let e : 2 * (w + 1) - 1 ≡ 2 * w + 1 = omega arith in
+        rw e (omega (arith, a, i .0, i .1))
+    pick zero false u d i = let a = d tt in absurd (no a)
+      where
+        no : n ≤ 0 * 0 + 0 → ⊥
+        no a = omega arith
+    pick (suc w) false u d i =
+        let a = d tt in
+        let e : 2 * suc w - 1 ≡ 2 * w + 1 = omega arith in
+        rw e (omega (arith, a, i .0, i .1))
+
+    go : (w : ℕ) → IsRoot n w → Closest n (cond (ltb (w * w + w) n) (w + 1) w)
+    go w i = pick w (ltb (w * w + w) n) (ltb→lt (w * w + w) n) (nltb→le (w * w + w) n) i
+
+odd-lt : (a b n : ℕ) → (2 * a - 1) * (2 * a - 1) < 4 * n → 4 * n < (2 * b + 1) * (2 * b + 1) → a ≤ b
+odd-lt a b n p q = le-of-suc-le-suc (lt-of-not-le (λ (g : suc b ≤ a). no (mul-le-mul (more g) (more g))))
+  where
+    more : suc b ≤ a → 2 * b + 1 ≤ 2 * a - 1
+    more g = omega arith
+
+    no : (2 * b + 1) * (2 * b + 1) ≤ (2 * a - 1) * (2 * a - 1) → ⊥
+    no g = omega arith
+
+pub closest-unique : (a b n : ℕ) → Closest n a → Closest n b → a ≡ b
+closest-unique a b n p q = le-antisymm (odd-lt a b n (p .0) (q .1)) (odd-lt b a n (q .0) (p .1))

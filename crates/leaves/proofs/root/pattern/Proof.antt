@@ -1,0 +1,60 @@
+use mathlib.Core.Path.{sym, ap, _∙_}
+use Prim.Native.Nat.{ℕ, _*_, _^_}
+use borrow.Author.Needs.{needs}
+use Rattle.leaves.specs.Root.{magnitude}
+use mathlib.Core.Logic.{⊎-elim}
+use native.Mathlib.Omega.{arith}
+use Rattle.leaves.proofs.root.Scaled.{scaled-even, scaled-odd, packs}
+use Rattle.leaves.proofs.root.pattern.Statement.{statement}
+use Rattle.leaves.proofs.root.pattern.Tie as tie
+use Rattle.leaves.proofs.root.pattern.Reads as reads
+use Rattle.leaves.proofs.root.pattern.Lts as lts
+use Rattle.leaves.proofs.root.near_root.Reads as near-root-reads
+use Rattle.leaves.proofs.root.split.Reads as split-reads
+
+-- src/lib.rt:84:9
+split-requires : tie.Need-split-requires
+split-requires c κs = search needs
+
+-- src/lib.rt:85:13
+add-e : tie.Need-add-e
+add-e c = search needs
+
+upper-requires : tie.Need-upper-requires
+upper-requires c κs = search needs
+
+-- src/lib.rt:86:42
+mul-v : tie.Need-mul-v
+mul-v c = search needs
+
+-- src/lib.rt:87:5
+mul-result : tie.Need-mul-result
+mul-result c = search needs
+
+-- src/lib.rt:87:35
+near-root-requires : tie.Need-near-root-requires
+near-root-requires c κs = ⊎-elim (λ w. omega arith) (λ w. omega arith) (c .if1 .came)
+
+-- src/lib.rt:87:5
+add-result : tie.Need-add-result
+add-result c = search needs
+
+-- src/lib.rt:80:1
+returns : tie.Need-returns
+returns c =
+    let k = c .before .before .before .before in
+    let n = magnitude (k .before .args .b) in
+    let r = k .split .result in
+    let g = k .split .ensures in
+    let v = c .before .if1 .v in
+    packs n (r .t) (r .z) g v (c .near-root .result)
+    (⊎-elim
+    (λ w. scaled-even n (r .t) (r .z) g (w .0 .taken) ∙ ap (λ (x : ℕ). x * 2 ^ 52) (sym (w .1)))
+    (λ w. scaled-odd n (r .t) (r .z) g (w .0 .left) ∙ ap (λ (x : ℕ). x * 2 ^ 52) (sym (w .2)))
+    (c .before .if1 .came))
+    (c .near-root .ensures .0)
+
+pub pattern-spec : {M : Type 1} → statement M
+pattern-spec =
+    tie.close
+    (tie.spec split-requires add-e upper-requires mul-v mul-result near-root-requires add-result returns)

@@ -1,0 +1,8 @@
+-- What the contracts of `leaves` cite, in document 01's order: module 1, the leaf rules.
+pub mod Reply
+pub mod Number
+pub mod Vector
+pub mod Triangle
+pub mod Root
+pub mod Norm
+pub mod Parts

@@ -1,0 +1,25 @@
+-- 01, 'Refusal numbers': a call gives a value or one of the numbered refusals. Each enum of the code is read as one of these two.
+use Prim.Native.Nat.{ℕ}
+use lib.Ieee.{Float}
+use Rattle.leaves.specs.declared.reply.Value.{Value}
+use Rattle.leaves.specs.declared.reply.Value.the-variants as value
+use Rattle.leaves.specs.declared.reply.Place.{Place}
+use Rattle.leaves.specs.declared.reply.Place.the-variants as place
+use Rattle.leaves.specs.declared.reply.Done.{Done}
+use Rattle.leaves.specs.declared.reply.Done.the-variants as done
+
+pub data Reply (A : Type 0) : Type 0 where
+  answered : A → Reply A
+  refused : ℕ → Reply A
+
+abbrev pub valueOf : Value → Reply Float
+valueOf (value.Is x) = answered x
+valueOf (value.Refused k) = refused k
+
+abbrev pub placeOf : Place → Reply ℕ
+placeOf (place.At i) = answered i
+placeOf (place.Refused k) = refused k
+
+abbrev pub doneOf : Done → Reply (Unit {0})
+doneOf done.Written = answered tt
+doneOf (done.Refused k) = refused k

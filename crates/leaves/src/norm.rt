@@ -1,0 +1,143 @@
+// Document 01, 'Leaf rules', enorm: MINPACK-1's ENORM with document 01's limits. Sums of squares are kept apart for
+// small, middle and large entries, so that no square overflows or is lost.
+use crate::number::abs;
+use crate::reply::Value;
+use crate::root::sqrt;
+ghost use mathlib.Core.Path.{_≡_};
+ghost use Rattle.leaves.specs.Reply.{valueOf};
+ghost use Rattle.leaves.specs.Norm.{large as largeOf, small as smallOf, step as stepOf, finish as finishOf, enorm as enormOf};
+
+const RDWARF: f64 = 3.834e-20;
+
+const RGIANT: f64 = 1.304e19;
+
+// The sums of squares of large, middle and small entries, and the largest of the large and of the small ones.
+pub struct Sums {
+    pub s1: f64,
+    pub s2: f64,
+    pub s3: f64,
+    pub x1max: f64,
+    pub x3max: f64,
+}
+
+fn large(t: Sums, v: f64) -> Sums
+    ensures { λ r. ⌜ r ≡ largeOf t v ⌝ }
+{
+    if t.x1max < v {
+        let q = t.x1max / v;
+        Sums {
+            s1: 1.0 + t.s1 * (q * q),
+            s2: t.s2,
+            s3: t.s3,
+            x1max: v,
+            x3max: t.x3max,
+        }
+    } else {
+        let q = v / t.x1max;
+        Sums {
+            s1: t.s1 + q * q,
+            s2: t.s2,
+            s3: t.s3,
+            x1max: t.x1max,
+            x3max: t.x3max,
+        }
+    }
+}
+
+fn small(t: Sums, v: f64) -> Sums
+    ensures { λ r. ⌜ r ≡ smallOf t v ⌝ }
+{
+    if t.x3max < v {
+        let q = t.x3max / v;
+        return Sums {
+            s1: t.s1,
+            s2: t.s2,
+            s3: 1.0 + t.s3 * (q * q),
+            x1max: t.x1max,
+            x3max: v,
+        };
+    }
+    if v == 0.0 {
+        return t;
+    }
+    let q = v / t.x3max;
+    Sums {
+        s1: t.s1,
+        s2: t.s2,
+        s3: t.s3 + q * q,
+        x1max: t.x1max,
+        x3max: t.x3max,
+    }
+}
+
+// Two-sided, so that the absolute value, whose sign of zero costs a division, is taken of small entries alone.
+fn step(agiant: f64, t: Sums, x: f64) -> Sums
+    ensures { λ r. ⌜ r ≡ stepOf agiant t x ⌝ }
+{
+    if RDWARF < x {
+        if x < agiant {
+            return Sums {
+                s1: t.s1,
+                s2: t.s2 + x * x,
+                s3: t.s3,
+                x1max: t.x1max,
+                x3max: t.x3max,
+            };
+        }
+        return large(t, x);
+    }
+    if x < -RDWARF {
+        if -agiant < x {
+            return Sums {
+                s1: t.s1,
+                s2: t.s2 + x * x,
+                s3: t.s3,
+                x1max: t.x1max,
+                x3max: t.x3max,
+            };
+        }
+        return large(t, -x);
+    }
+    if x != x {
+        return large(t, x);
+    }
+    small(t, abs(x))
+}
+
+fn finish(t: Sums) -> f64
+    ensures { λ r. ⌜ r ≡ finishOf t ⌝ }
+{
+    if t.s1 != 0.0 {
+        return t.x1max * sqrt(t.s1 + t.s2 / t.x1max / t.x1max);
+    }
+    if t.s2 != 0.0 {
+        if t.s2 >= t.x3max {
+            return sqrt(t.s2 * (1.0 + t.x3max / t.s2 * (t.x3max * t.s3)));
+        }
+        return sqrt(t.x3max * (t.s2 / t.x3max + t.x3max * t.s3));
+    }
+    t.x3max * sqrt(t.s3)
+}
+
+pub fn enorm(v: &[f64]) -> Value
+    ensures { λ r. ⌜ valueOf r ≡ enormOf (now (v .entry)) ⌝ }
+{
+    let n = v.len();
+    if n > 128 {
+        return Value::Refused(2);
+    }
+    let agiant = RGIANT / (n as f64);
+    let mut t = Sums {
+        s1: 0.0,
+        s2: 0.0,
+        s3: 0.0,
+        x1max: 0.0,
+        x3max: 0.0,
+    };
+    let mut i = 0;
+    while i < v.len() {
+        t = step(agiant, t, v[i]);
+        i += 1;
+    }
+    Value::Is(finish(t))
+}
