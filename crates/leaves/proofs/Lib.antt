@@ -3,6 +3,8 @@ pub mod Signs
 pub mod Sides
 pub mod Folds
 pub mod Norms
+pub mod Normed
 pub mod Triangles
 pub mod Replies
 pub mod Unique
+pub mod Examples

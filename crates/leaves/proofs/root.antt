@@ -6,6 +6,9 @@ pub mod Scaled
 pub mod Floats
 pub mod Patterns
 pub mod Bounds
+pub mod Same
 pub mod Meets
 pub mod Guess
+pub mod Signs
 pub mod Quarter
+pub mod Unique

@@ -5,4 +5,6 @@ pub mod Vector
 pub mod Triangle
 pub mod Root
 pub mod Norm
+pub mod Product
 pub mod Parts
+pub mod Opened

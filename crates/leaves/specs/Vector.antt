@@ -46,9 +46,13 @@ unfoldable pub imaxFrom : ℕ → Float → ℕ → List Float → ℕ
 imaxFrom b v i [] = b
 imaxFrom b v i (x ∷ xs) = imaxFrom (cond (lt v x) i b) (cond (lt v x) x v) (suc i) xs
 
+abbrev pub imaxOf : List Float → ℕ
+imaxOf [] = 0
+imaxOf (x ∷ xs) = imaxFrom 0 x 1 xs
+
 unfoldable pub imax : List Float → Reply ℕ
 imax [] = refused 3
-imax (x ∷ xs) = answered (imaxFrom 0 x 1 xs)
+imax (x ∷ xs) = answered (imaxOf (x ∷ xs))
 
 unfoldable pub copy : List Float → List Float → Reply (Unit {0}) × List Float
 copy xs ys = alike xs ys (answered tt, xs) (refused 3, ys)

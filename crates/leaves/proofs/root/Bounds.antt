@@ -1,17 +1,16 @@
--- The digits and the exponent of a root, by the pattern of x. Assumes nothing.
-use mathlib.Core.Path.{_≡_, refl, sym, ap, _∙_, subst}
+-- The digits and the exponent of a root fit their fields: nothing overflows or underflows on the way back to a float. Assumes nothing.
+use mathlib.Core.Path.{_≡_, sym, ap, _∙_, subst}
 use mathlib.Core.Bool.{Bool, true, false, not}
-use mathlib.Core.Logic.{_⊎_, inl, inr}
 use Prim.Native.Nat.{ℕ, zero, suc, _+_, _-_, _*_, _/_, _%_, _^_, _≤_, _<_}
-use native.Mathlib.Nat.{mul-assoc, mul-le-mul-right, mul-lt-mul-of-pos-right, le-trans, le-of-eq, lt-of-lt-of-le, lt-of-le-of-lt}
+use native.Mathlib.Nat.{mul-assoc, mul-le-mul-right, mul-lt-mul-of-pos-right, le-trans, le-of-eq, lt-of-lt-of-le}
 use native.Mathlib.Omega.{arith}
 use lib.Dec.{T, ltb, eqb, ltb→lt, nltb→le, eqb→eq}
 use lib.Ieee.Fits.{eq→eqb}
 use lib.Pow.{pow-add, pow-pos}
 use lib.Ieee.{size}
 use lib.Ieee.Digits.{size-lt, size-le, size-reaches}
-use Rattle.leaves.specs.Root.{magnitude, halfExp, scaled, nearRoot}
-use Rattle.leaves.specs.Parts.{Normed}
+use Rattle.leaves.specs.Root.{halfExp, scaled, nearRoot}
+use Rattle.leaves.specs.Parts.{magnitude, Normed}
 use Rattle.leaves.proofs.root.Scaled.{normed-low, normed-high, half-is, scaled-even, scaled-odd}
 use Rattle.leaves.proofs.root.Whole.{near-bounds}
 

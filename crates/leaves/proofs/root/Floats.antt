@@ -1,20 +1,16 @@
--- What the tests of `root` say of x, and what its pattern is. Assumes nothing.
+-- What the tests of `sqrt` say of x, each a case of the rule: NaN, a zero, below zero, and what is left. Assumes nothing.
 use mathlib.Core.Path.{_≡_, refl, sym, ap, _∙_, subst}
-use mathlib.Core.Bool.{Bool, true, false, not, _&&_, _||_, Bool·beq, cond, true≢false, false≢true}
-use mathlib.Core.Logic.{_⊎_, inl, inr}
-use Prim.Native.Nat.{ℕ, zero, suc, _+_, _-_, _*_, _/_, _%_, _^_, _≤_, _<_}
-use native.Mathlib.Nat.{zero-mul, zero-lt-suc, mul-pos, mul-div-cancel, mul-one, eq-or-lt-of-le, le-of-suc-le-suc, lt-irrefl}
+use mathlib.Core.Bool.{Bool, true, false, not, _&&_, _||_, Bool·beq, true≢false, false≢true}
+use Prim.Native.Nat.{ℕ, zero, suc, _+_, _*_, _<_}
+use native.Mathlib.Nat.{zero-mul, zero-lt-suc, mul-pos}
 use native.Mathlib.Omega.{arith}
-use lib.IntN.{ℤ, pos, negsuc}
-use lib.Dec.{T, leb, ltb, eqb, lt→ltb, ltb→lt, eqb→eq, eqb-refl, nleb→lt, not-T}
-use lib.Arith.{lt→nleb}
-use lib.Ieee.{Float, nan, inf, fin, Format, binary64, up, down, below, level, odd, ne, eq, lt, div, fits, isNan, ofFields, ofBits, nanBits, toBits}
-use lib.Ieee.Fits.{up-pos, down-pos, eq→eqb}
-use lib.Ieee.Exact.{HasValue, odd-sign}
+use lib.IntN.{ℤ, pos}
+use lib.Dec.{T, eqb, lt→ltb, ltb→lt, eqb→eq}
+use lib.Ieee.{Float, nan, inf, fin, binary64, up, down, level, ne, eq, lt, div, isNan, ofBits}
+use lib.Ieee.Fits.{up-pos}
 use lib.Ieee.Compare.{differs-from-itself}
-use lib.Ieee.Bits.{is-true, is-false, cond-no, ofBits-toBits, toBits-lt, nanBits-is}
-use Rattle.leaves.specs.Root.{rootS, nearRoot, scaled, halfExp, magnitude, packed, unitsOf}
-use Rattle.leaves.proofs.root.Scaled.{magnitude-low, magnitude-high}
+use lib.Ieee.Bits.{is-true}
+use Rattle.leaves.specs.Root.{rootS}
 
 to-T : {b : Bool} → b ≡ true → T b
 to-T e = subst T (sym e) tt
@@ -67,31 +63,38 @@ zero-root-at (fin s (suc m) e) t = absurd (no (level-says s (suc m * up e * 1) (
 pub zero-root : (x : Float) → eq x nought ≡ true → x ≡ rootS x
 zero-root x t = zero-root-at x (ap (λ (y : Float). eq x y) (sym nought-is) ∙ t)
 
-below-root-at : (x : Float) → lt x (fin false 0 (pos 0)) ≡ true → nan ≡ rootS x
+pub below-zero : (x : Float) → lt x (fin false 0 (pos 0)) ≡ true → nan ≡ rootS x
 unfolding lt rootS
-below-root-at nan t = refl
-below-root-at (inf true) t = refl
-below-root-at (inf false) t = absurd (false≢true t)
-below-root-at (fin true zero e) t = absurd (no (ltb→lt 0 (0 * up e * 1 + 0 * down e) (to-T t)))
+below-zero nan t = refl
+below-zero (inf true) t = refl
+below-zero (inf false) t = absurd (false≢true t)
+below-zero (fin true zero e) t = absurd (no (ltb→lt 0 (0 * up e * 1 + 0 * down e) (to-T t)))
   where
     no : 0 < 0 * up e * 1 + 0 * down e → ⊥
     no q = omega arith
-below-root-at (fin false zero e) t = absurd (no (ltb→lt (0 * up e * 1) (0 * down e) (to-T t)))
+below-zero (fin false zero e) t = absurd (no (ltb→lt (0 * up e * 1) (0 * down e) (to-T t)))
   where
     no : 0 * up e * 1 < 0 * down e → ⊥
     no q = omega arith
-below-root-at (fin true (suc m) e) t = refl
-below-root-at (fin false (suc m) e) t = absurd (no (ltb→lt (suc m * up e * 1) (0 * down e) (to-T t)))
+below-zero (fin true (suc m) e) t = refl
+below-zero (fin false (suc m) e) t = absurd (no (ltb→lt (suc m * up e * 1) (0 * down e) (to-T t)))
   where
     no : suc m * up e * 1 < 0 * down e → ⊥
     no q = omega arith
+
+pub negative-below : (m : ℕ) (e : ℤ) → lt (fin true (suc m) e) (fin false 0 (pos 0)) ≡ true
+unfolding lt
+negative-below m e = is-true _ (lt→ltb 0 (suc m * up e * 1 + 0 * down e) (more (pos-size m e)))
+  where
+    more : 0 < suc m * up e * 1 → 0 < suc m * up e * 1 + 0 * down e
+    more q = omega arith
 
 div-is : div binary64 nought nought ≡ nan
 unfolding div ofBits
 div-is = refl
 
 pub below-root : (x : Float) → lt x nought ≡ true → div binary64 nought nought ≡ rootS x
-below-root x t = div-is ∙ below-root-at x (ap (λ (y : Float). lt x y) (sym nought-is) ∙ t)
+below-root x t = div-is ∙ below-zero x (ap (λ (y : Float). lt x y) (sym nought-is) ∙ t)
 
 -- ---- what is left: +infinity, and the finite values above zero
 
@@ -112,10 +115,7 @@ above-at nan n z l = absurd (true≢false n)
 above-at (inf true) n z l = absurd (true≢false l)
 above-at (inf false) n z l = tt
 above-at (fin true zero e) n z l = absurd (true≢false (sym (is-true _ (zero-level true (0 * up e * 1) (0 * down e) (zero-size (up e)) (zero-mul (down e)))) ∙ z))
-above-at (fin true (suc m) e) n z l = absurd (true≢false (sym (is-true _ (lt→ltb 0 (suc m * up e * 1 + 0 * down e) (more (pos-size m e)))) ∙ l))
-  where
-    more : 0 < suc m * up e * 1 → 0 < suc m * up e * 1 + 0 * down e
-    more q = omega arith
+above-at (fin true (suc m) e) n z l = absurd (true≢false (sym (negative-below m e) ∙ l))
 above-at (fin false zero e) n z l = absurd (true≢false (sym (is-true _ (zero-level false (0 * up e * 1) (0 * down e) (zero-size (up e)) (zero-mul (down e)))) ∙ z))
 above-at (fin false (suc m) e) n z l = zero-lt-suc m
 

@@ -1,15 +1,15 @@
--- A guess at the root's first digits, and the check of it. Assumes nothing.
-use mathlib.Core.Path.{_≡_, refl, sym, ap, _∙_, subst}
-use mathlib.Core.Bool.{Bool, true, false, not, false≢true}
-use Prim.Native.Nat.{ℕ, zero, suc, _+_, _-_, _*_, _/_, _%_, _^_, _≤_, _<_}
-use native.Mathlib.Nat.{mul-le-mul, mul-le-mul-left, mul-le-mul-right, lt-of-not-le, le-of-suc-le-suc, div-add-mod, mod-lt}
+-- The check of a guess at the root's first digits: S = w² + f·2^26 - b², so that q is w or w + 1, whatever made the guess. Assumes nothing.
+use mathlib.Core.Path.{_≡_, sym, subst}
+use mathlib.Core.Bool.{Bool, true, not, false≢true}
+use Prim.Native.Nat.{ℕ, suc, _+_, _*_, _/_, _%_, _^_, _≤_, _<_}
+use native.Mathlib.Nat.{mul-le-mul, mul-le-mul-left, mul-le-mul-right, lt-of-not-le, le-of-suc-le-suc, div-add-mod}
 use native.Mathlib.Omega.{arith}
-use lib.Dec.{T, ltb}
+use lib.Dec.{T}
 use lib.Arith.{le→nltb}
 use lib.Ieee.{Float, nan, inf, fin, binary64, lt, isNan, nanBits, ofBits}
 use lib.Ieee.Bits.{nanBits-above}
 use Rattle.leaves.specs.Root.{nearRoot}
-use Rattle.leaves.proofs.root.Whole.{Closest, near-closest, closest-unique}
+use Rattle.leaves.proofs.root.Whole.{nearest}
 
 -- a pattern up to infinity's is no NaN's
 pub no-nan-below : (n : ℕ) → n ≤ 2047 * 2 ^ 52 → T (not (nanBits binary64 n))
@@ -25,19 +25,6 @@ no-nan-above (fin s m e) t = tt
 -- a product of two numbers of 27 digits has 54
 pub product-le : (a b : ℕ) → a ≤ 2 ^ 27 → b ≤ 2 ^ 27 → a * b ≤ 2 ^ 54
 product-le a b h l = mul-le-mul h l
-
--- the whole number that is nearest by whole bounds
-closest-of : (n w : ℕ) → 0 < w → w * w < n + w → n ≤ w * w + w → Closest n w
-closest-of n zero p q r = absurd (no p)
-  where
-    no : 0 < 0 → ⊥
-    no p = omega arith
-closest-of n (suc u) p q r =
-    let e : 2 * suc u - 1 ≡ 2 * u + 1 = omega arith in
-    rw e (omega (arith, q, r))
-
-nearest : (n w : ℕ) → n < 4 ^ 53 → 0 < n → 0 < w → w * w < n + w → n ≤ w * w + w → w ≡ nearRoot n
-nearest n w h z p q r = closest-unique w (nearRoot n) n (closest-of n w p q r) (near-closest n z h)
 
 -- the division's quotient has 26 digits, or is 2 ^ 26
 pub quotient-le : (d a : ℕ) → 0 < a → d ≤ a * 2 → d * 2 ^ 32 / (a * 128) ≤ 2 ^ 26

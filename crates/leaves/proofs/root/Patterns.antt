@@ -1,18 +1,19 @@
--- A finite value above zero and its pattern, and the pattern of the root. Assumes nothing.
+-- A finite value above zero and its pattern, and the pattern of the root: why the code may work on patterns alone. Assumes nothing.
 use mathlib.Core.Path.{_≡_, refl, sym, ap, _∙_, subst}
-use mathlib.Core.Bool.{Bool, true, false, not, cond, true≢false, false≢true}
+use mathlib.Core.Bool.{Bool, true, false, not, cond}
 use mathlib.Core.Logic.{_⊎_, inl, inr}
 use Prim.Native.Nat.{ℕ, zero, suc, _+_, _-_, _*_, _/_, _%_, _^_, _≤_, _<_}
 use native.Mathlib.Nat.{mul-div-cancel, mul-one, zero-lt-suc}
 use native.Mathlib.Omega.{arith}
-use lib.IntN.{ℤ, pos, negsuc}
-use lib.Dec.{T, leb, ltb, eqb, lt→ltb, ltb→lt, eqb→eq, nleb→lt, not-T}
+use lib.IntN.{ℤ}
+use lib.Dec.{T, leb, eqb, eqb→eq, nleb→lt, not-T}
 use lib.Arith.{lt→nleb}
-use lib.Ieee.{Float, nan, inf, fin, binary64, up, down, odd, fits, isNan, ofFields, ofBits, nanBits, toBits}
+use lib.Ieee.{Float, nan, inf, fin, binary64, down, odd, fits, isNan, ofFields, ofBits, nanBits, toBits}
 use lib.Ieee.Fits.{down-pos, eq→eqb}
 use lib.Ieee.Exact.{HasValue, odd-sign}
-use lib.Ieee.Bits.{is-true, is-false, cond-no, ofBits-toBits, toBits-lt, nanBits-is}
-use Rattle.leaves.specs.Root.{rootS, nearRoot, scaled, halfExp, magnitude, packed, unitsOf}
+use lib.Ieee.Bits.{is-false, cond-no, ofBits-toBits, toBits-lt, nanBits-is}
+use Rattle.leaves.specs.Root.{rootS, nearRoot, scaled, halfExp, unitsOf}
+use Rattle.leaves.specs.Parts.{magnitude, packed}
 use Rattle.leaves.proofs.root.Scaled.{magnitude-low, magnitude-high}
 use Rattle.leaves.proofs.root.Bounds.{Room, room}
 use Rattle.leaves.proofs.root.Floats.{Above}

@@ -1,13 +1,13 @@
--- The root of an x from 0.25 up to 0.5. Assumes nothing.
-use mathlib.Core.Path.{_≡_, refl, sym, ap, _∙_, subst}
-use mathlib.Core.Bool.{Bool, true, false, false≢true}
-use Prim.Native.Nat.{ℕ, zero, suc, _+_, _-_, _*_, _/_, _%_, _^_, _≤_, _<_}
+-- The root of an x from 0.25 up to 0.5: the field is 1021, so that v is t and the pattern is q + 1021·2^52. Assumes nothing.
+use mathlib.Core.Path.{_≡_, sym, _∙_, subst}
+use mathlib.Core.Bool.{true, false, false≢true}
+use Prim.Native.Nat.{ℕ, zero, suc, _+_, _*_, _/_, _%_, _^_, _<_}
 use native.Mathlib.Nat.{zero-lt-suc}
 use native.Mathlib.Omega.{arith}
-use lib.IntN.{ℤ}
-use lib.Dec.{T, ltb, ltb→lt}
+use lib.Dec.{T, ltb→lt}
 use lib.Ieee.{Float, nan, inf, fin, binary64, up, down, lt, ofBits}
-use Rattle.leaves.specs.Root.{nearRoot, magnitude, packed}
+use Rattle.leaves.specs.Root.{nearRoot}
+use Rattle.leaves.specs.Parts.{magnitude, packed}
 use Rattle.leaves.proofs.root.Floats.{Above}
 use Rattle.leaves.proofs.root.Scaled.{normed-high, scaled-even, packs}
 use Rattle.leaves.proofs.root.Whole.{near-bounds}

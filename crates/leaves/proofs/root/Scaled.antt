@@ -1,8 +1,8 @@
--- From a normalised count of units to the digits that the root is taken of. Assumes nothing.
+-- From n units to the S that the root is taken of: S is t, or twice t, before 52 zeros, and no digit is cut off. Assumes nothing.
 use mathlib.Core.Path.{_≡_, refl, sym, ap, _∙_, subst}
-use mathlib.Core.Bool.{Bool, true, false, not, cond}
+use mathlib.Core.Bool.{Bool, true, false, cond}
 use Prim.Native.Nat.{ℕ, zero, suc, _+_, _-_, _*_, _/_, _%_, _^_, _≤_, _<_}
-use native.Mathlib.Nat.{pow-suc, le-antisymm, lt-of-not-le, le-of-suc-le-suc, lt-irrefl, lt-of-lt-of-le, lt-of-le-of-lt, le-trans, le-of-eq, mul-pos, mul-comm, mul-assoc, mul-right-comm, lt-of-mul-lt-mul-right, le-of-mul-le-mul-right, mul-lt-mul-of-pos-right, mul-le-mul-right, mul-div-cancel}
+use native.Mathlib.Nat.{pow-suc, le-antisymm, lt-of-not-le, lt-irrefl, lt-of-lt-of-le, le-trans, le-of-eq, mul-comm, mul-assoc, lt-of-mul-lt-mul-right, le-of-mul-le-mul-right, mul-lt-mul-of-pos-right, mul-le-mul-right, mul-div-cancel}
 use native.Mathlib.Omega.{arith}
 use lib.Dec.{T, ltb, lt→ltb, eqb, eqb→eq}
 use lib.Ieee.Fits.{eq→eqb}
@@ -11,8 +11,8 @@ use lib.Pow.{pow-add, pow-pos, pow-mono}
 use lib.Ieee.{size}
 use lib.Ieee.Digits.{size-lt, size-le}
 use lib.Ieee.Bits.{is-true, is-false}
-use Rattle.leaves.specs.Root.{magnitude, halfExp, scaled, packed, nearRoot}
-use Rattle.leaves.specs.Parts.{Normed}
+use Rattle.leaves.specs.Root.{halfExp, scaled, nearRoot}
+use Rattle.leaves.specs.Parts.{magnitude, packed, Normed}
 
 -- ---- the magnitude of a pattern
 

@@ -1,4 +1,4 @@
--- `root::floor_root` meets its contract. Assumes nothing.
+-- `root::floor_root` meets its contract: each turn keeps `Going`, and after 53 nothing of v is left. Assumes nothing.
 use Prim.Native.Nat.{_-_}
 use mathlib.Core.Logic.{⊎-elim}
 use native.Mathlib.Omega.{arith}
@@ -17,23 +17,8 @@ abbrev μ-loop : tie.MeasureT-loop
 loop-holds : tie.Need-loop-holds Inv-loop μ-loop
 loop-holds c = start (c .args .v) (c .pre)
 
-mul-rem : tie.Need-mul-rem Inv-loop μ-loop
-mul-rem c = omega arith
-
 add-rem : tie.Need-add-rem Inv-loop μ-loop
 add-rem c = omega arith
-
-mul-s : tie.Need-mul-s Inv-loop μ-loop
-mul-s c = omega arith
-
-mul-w : tie.Need-mul-w Inv-loop μ-loop
-mul-w c = omega arith
-
-mul-if1 : tie.Need-mul-if1 Inv-loop μ-loop
-mul-if1 c = omega arith
-
-mul-rem-2 : tie.Need-mul-rem-2 Inv-loop μ-loop
-mul-rem-2 c = omega arith
 
 sub-rem : tie.Need-sub-rem Inv-loop μ-loop
 sub-rem c = omega arith
@@ -74,12 +59,7 @@ floor-root-spec =
     Inv-loop
     μ-loop
     loop-holds
-    mul-rem
     add-rem
-    mul-s
-    mul-w
-    mul-if1
-    mul-rem-2
     sub-rem
     sub-rem-2
     add-w

@@ -1,4 +1,4 @@
--- `root::near_by` meets its contract. Assumes nothing.
+-- `root::near_by` meets its contract: an answer that is not 0 is the nearest root, whatever a was. Assumes nothing.
 use mathlib.Core.Path.{_≡_}
 use Prim.Native.Nat.{ℕ, _+_, _-_, _*_, _/_, _%_, _^_, _≤_, _<_}
 use native.Mathlib.Nat.{div-add-mod, mod-lt}
@@ -37,66 +37,51 @@ module _ (v a : ℕ) (h : (2 ^ 52 ≤ v) × (v + 1 < 2 ^ 54)) (p : (2 ^ 26 ≤ a
   next : b * b + (a * 2 ^ 26 + b) < f * 2 ^ 20 → a * 2 ^ 26 + b + 1 ≡ nearRoot (v * 2 ^ 52)
   next g = near-next v a (v - a * a) b f (h .1) (h .0) (p .0) sum (div-add-mod ((v - a * a) * 2 ^ 32) (a * 128)) (quotient v a (p .0) l) (remainder v a (p .0)) g
 
--- src/lib.rt:95:14
 mul-aa : tie.Need-mul-aa
 mul-aa c = omega (arith, product-le (c .args .a) (c .args .a) (omega arith) (omega arith))
 
--- src/lib.rt:97:9
 returns : tie.Need-returns
 returns c = search needs
 
--- src/lib.rt:100:13
 mul-if2 : tie.Need-mul-if2
 mul-if2 c = search needs
 
 mul-c : tie.Need-mul-c
 mul-c c = search needs
 
--- src/lib.rt:102:9
 returns-2 : tie.Need-returns-2
 returns-2 c = search needs
 
--- src/lib.rt:104:13
 mul-e : tie.Need-mul-e
 mul-e c = search needs
 
--- src/lib.rt:105:13
 div-b : tie.Need-div-b
 div-b c = search needs
 
--- src/lib.rt:106:13
 rem-f : tie.Need-rem-f
 rem-f c = search needs
 
--- src/lib.rt:107:13
 mul-w : tie.Need-mul-w
 mul-w c = search needs
 
--- src/lib.rt:107:13
 add-w : tie.Need-add-w
 add-w c = let s = c .before .before in omega (arith, quotient (s .args .v) (s .args .a) (s .pre .1 .0) (c .if2 .left))
 
--- src/lib.rt:108:8
 mul-if3 : tie.Need-mul-if3
 mul-if3 c = let s = c .before .before in omega (arith, remainder (s .args .v) (s .args .a) (s .pre .1 .0))
 
--- src/lib.rt:108:25
 mul-if3-2 : tie.Need-mul-if3-2
 mul-if3-2 c = let s = c .before .before in let q = quotient (s .args .v) (s .args .a) (s .pre .1 .0) (c .if2 .left) in omega (arith, product-le _ _ (more q) (more q))
 
--- src/lib.rt:108:25
 add-if3 : tie.Need-add-if3
 add-if3 c = let s = c .before .before in let q = quotient (s .args .v) (s .args .a) (s .pre .1 .0) (c .if2 .left) in omega (arith, q, product-le _ _ (more q) (more q))
 
--- src/lib.rt:109:16
 add-result : tie.Need-add-result
 add-result c = let s = c .before .before .before in omega (arith, quotient (s .args .v) (s .args .a) (s .pre .1 .0) (c .before .if2 .left))
 
--- src/lib.rt:109:9
 returns-3 : tie.Need-returns-3
 returns-3 c z = let s = c .before .before .before in next (s .args .v) (s .args .a) (s .pre .0) (s .pre .1) (c .before .before .if1 .left) (c .before .if2 .left) (c .if3 .taken)
 
--- src/lib.rt:90:1
 returns-4 : tie.Need-returns-4
 returns-4 c z = let s = c .before .before .before in same (s .args .v) (s .args .a) (s .pre .0) (s .pre .1) (c .before .before .if1 .left) (c .before .if2 .left) (c .if3 .left)
 

@@ -1,4 +1,4 @@
--- `root::near_root` meets its contract. Assumes nothing.
+-- `root::near_root` meets its contract: by either way it is the nearest root, and has 53 digits. Assumes nothing.
 use mathlib.Core.Path.{_≡_}
 use Prim.Native.Nat.{ℕ, _+_, _*_, _^_, _≤_, _<_}
 use native.Mathlib.Omega.{arith}
@@ -15,21 +15,17 @@ use Rattle.leaves.proofs.root.near_slow.Reads as near-slow-reads
 bounded : (v : ℕ) {r : ℕ} → (2 ^ 52 ≤ v) × (v + 1 < 2 ^ 54) → r ≡ nearRoot (v * 2 ^ 52) → (r ≡ nearRoot (v * 2 ^ 52)) × (2 ^ 52 ≤ r) × (r < 2 ^ 53)
 bounded v h e = let n = near-bounds v (h .0) (h .1) in (e, omega (arith, e, n .0), omega (arith, e, n .1))
 
--- src/lib.rt:129:9
 near-by-requires : tie.Need-near-by-requires
 near-by-requires c κs = search needs
 
--- src/lib.rt:130:27
 near-slow-requires : tie.Need-near-slow-requires
 near-slow-requires c κs = search needs
 
--- src/lib.rt:124:1
 returns : tie.Need-returns
 returns c =
     let s = c .before .before in
     bounded (s .args .v) (s .pre .0) (c .before .near-by .ensures (c .if1 .taken))
 
--- src/lib.rt:124:1
 returns-2 : tie.Need-returns-2
 returns-2 c =
     let s = c .before .before .before in

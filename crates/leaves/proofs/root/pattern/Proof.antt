@@ -1,7 +1,8 @@
+-- `root::pattern` meets its contract: v by the parity of z + 969, and the sum of field and digits. Assumes nothing.
 use mathlib.Core.Path.{sym, ap, _∙_}
 use Prim.Native.Nat.{ℕ, _*_, _^_}
 use borrow.Author.Needs.{needs}
-use Rattle.leaves.specs.Root.{magnitude}
+use Rattle.leaves.specs.Parts.{magnitude}
 use mathlib.Core.Logic.{⊎-elim}
 use native.Mathlib.Omega.{arith}
 use Rattle.leaves.proofs.root.Scaled.{scaled-even, scaled-odd, packs}
@@ -12,34 +13,27 @@ use Rattle.leaves.proofs.root.pattern.Lts as lts
 use Rattle.leaves.proofs.root.near_root.Reads as near-root-reads
 use Rattle.leaves.proofs.root.split.Reads as split-reads
 
--- src/lib.rt:84:9
 split-requires : tie.Need-split-requires
 split-requires c κs = search needs
 
--- src/lib.rt:85:13
 add-e : tie.Need-add-e
 add-e c = search needs
 
 upper-requires : tie.Need-upper-requires
 upper-requires c κs = search needs
 
--- src/lib.rt:86:42
 mul-v : tie.Need-mul-v
 mul-v c = search needs
 
--- src/lib.rt:87:5
 mul-result : tie.Need-mul-result
 mul-result c = search needs
 
--- src/lib.rt:87:35
 near-root-requires : tie.Need-near-root-requires
 near-root-requires c κs = ⊎-elim (λ w. omega arith) (λ w. omega arith) (c .if1 .came)
 
--- src/lib.rt:87:5
 add-result : tie.Need-add-result
 add-result c = search needs
 
--- src/lib.rt:80:1
 returns : tie.Need-returns
 returns c =
     let k = c .before .before .before .before in

@@ -1,6 +1,4 @@
--- `root::raise` meets its contract. Assumes nothing.
-use mathlib.Core.Path.{_≡_}
-use Prim.Native.Nat.{_*_, _^_, _<_, _≤_}
+-- `root::raise` meets its contract: a subnormal's n is moved up to 53 digits, a place and a digit less each turn. Assumes nothing.
 use native.Mathlib.Omega.{arith}
 use Rattle.leaves.proofs.root.Raising.{Raised, raised-start, raised-step, raised-pos}
 use Rattle.leaves.proofs.root.raise.Statement.{statement}

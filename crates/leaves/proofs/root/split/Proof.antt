@@ -1,3 +1,4 @@
+-- `root::split` meets its contract: t and z are those of the pattern's magnitude, subnormal or not. Assumes nothing.
 use borrow.Author.Needs.{needs}
 use Rattle.leaves.proofs.root.Scaled.{normed-low, normed-high}
 use Rattle.leaves.proofs.root.split.Statement.{statement}
@@ -6,23 +7,18 @@ use Rattle.leaves.proofs.root.split.Reads as reads
 use Rattle.leaves.proofs.root.split.Lts as lts
 use Rattle.leaves.proofs.root.raise.Reads as raise-reads
 
--- src/lib.rt:39:9
 raise-requires : tie.Need-raise-requires
 raise-requires c κs = search needs
 
--- src/lib.rt:42:16
 add-t5 : tie.Need-add-t5
 add-t5 c = search needs
 
--- src/lib.rt:43:16
 add-t7 : tie.Need-add-t7
 add-t7 c = search needs
 
--- src/lib.rt:34:1
 returns : tie.Need-returns
 returns c = normed-low (c .before .before .args .b) (c .raise .result .t) (c .raise .result .z) (c .before .if1 .taken) (c .raise .ensures)
 
--- src/lib.rt:34:1
 returns-2 : tie.Need-returns-2
 returns-2 c = normed-high (c .before .args .b) (c .if1 .left) (c .before .pre .1)
 

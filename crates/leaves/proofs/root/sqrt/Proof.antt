@@ -1,8 +1,8 @@
--- `root::root` meets its contract. Assumes nothing.
-use mathlib.Core.Path.{_≡_, sym, ap, _∙_, subst}
+-- `root::sqrt` meets its contract: each return is a case of `rootS`. Assumes nothing.
+use mathlib.Core.Path.{sym, ap, _∙_, subst}
 use Prim.Native.Nat.{ℕ}
 use lib.Dec.{T}
-use mathlib.Core.Bool.{Bool, not}
+use mathlib.Core.Bool.{not}
 use lib.Ieee.{binary64, fits, ofBits, nanBits}
 use Rattle.leaves.proofs.root.Floats.{Above, nan-root, no-nan, zero-root, below-root, is-above}
 use Rattle.leaves.proofs.root.Patterns.{top-root, some-pattern, finite-root, pattern-no-nan}

@@ -1,6 +1,6 @@
--- `root::root_quarter` meets its contract. Assumes nothing.
-use mathlib.Core.Path.{_≡_, sym, ap, _∙_, subst}
-use mathlib.Core.Bool.{Bool, not}
+-- `root::sqrt_quarter` meets the contract of `sqrt`: its own way gives the same pattern, and else it is `sqrt`. Assumes nothing.
+use mathlib.Core.Path.{sym, ap, _∙_, subst}
+use mathlib.Core.Bool.{not}
 use Prim.Native.Nat.{ℕ}
 use native.Mathlib.Omega.{arith}
 use lib.Dec.{T}
@@ -20,29 +20,23 @@ use Rattle.leaves.proofs.root.upper_quarter.Reads as upper-quarter-read
 held : (c : tie.Start) → T (fits binary64 (c .args .x))
 held c = subst T (sym (c .good .0 .1)) tt
 
--- src/lib.rt:185:17
 float-to-bits-b : tie.Need-float-to-bits-b
 float-to-bits-b c = no-nan-above (c .before .args .x) (c .if1 .taken)
 
--- src/lib.rt:187:17
 upper-quarter-requires : tie.Need-upper-quarter-requires
 upper-quarter-requires c κs = search needs
 
--- src/lib.rt:188:29
 add-near-by : tie.Need-add-near-by
 add-near-by c = search needs
 
--- src/lib.rt:188:17
 near-by-requires : tie.Need-near-by-requires
 near-by-requires c κs = search needs
 
--- src/lib.rt:190:39
 add-result : tie.Need-add-result
 add-result c =
     let x = c .before .before .before .before .before .args .x in
     omega (arith, digits (toBits binary64 x) _ (c .before .before .before .if2 .taken) (c .before .near-by .ensures (c .if3 .taken)))
 
--- src/lib.rt:190:24
 float-from-bits-result : tie.Need-float-from-bits-result
 float-from-bits-result c =
     let s = c .before .before .before .before .before in
@@ -51,7 +45,6 @@ float-from-bits-result c =
     let b = toBits binary64 (s .args .x) in
     subst (λ (n : ℕ). T (not (nanBits binary64 n))) (sym (quarter-pattern b _ h e)) (pattern-no-nan (s .args .x) (above-zero (s .args .x) (c .before .before .before .before .if1 .taken)) (held s) (finite b _ h e))
 
--- src/lib.rt:190:17
 returns : tie.Need-returns
 returns c =
     let s = c .before .before .before .before .before in
@@ -60,11 +53,9 @@ returns c =
     let b = toBits binary64 (s .args .x) in
     ap (λ (n : ℕ). ofBits binary64 n) (quarter-pattern b _ h e) ∙ finite-root (s .args .x) (above-zero (s .args .x) (c .before .before .before .before .if1 .taken)) (held s) (finite b _ h e)
 
--- src/lib.rt:194:5
 sqrt-requires : tie.Need-sqrt-requires
 sqrt-requires c κs = search needs
 
--- src/lib.rt:181:1
 returns-2 : tie.Need-returns-2
 returns-2 c = search needs
 

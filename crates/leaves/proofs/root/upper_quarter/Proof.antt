@@ -1,4 +1,4 @@
--- `root::upper_quarter` is safe, and its result has 27 digits. Assumes nothing.
+-- `root::upper_quarter` is safe, and its result has 27 digits; that they are the right ones is not claimed. Assumes nothing.
 use Rattle.leaves.proofs.root.Guess.{no-nan-above}
 use borrow.Author.Needs.{needs}
 use Rattle.leaves.proofs.root.upper_quarter.Statement.{statement}
@@ -6,19 +6,15 @@ use Rattle.leaves.proofs.root.upper_quarter.Tie as tie
 use Rattle.leaves.proofs.root.upper_quarter.Reads as reads
 use Rattle.leaves.proofs.root.upper_quarter.Lts as lts
 
--- src/lib.rt:174:9
 float-to-bits-result : tie.Need-float-to-bits-result
 float-to-bits-result c = no-nan-above _ (c .if1 .taken)
 
--- src/lib.rt:174:9
 add-result : tie.Need-add-result
 add-result c = search needs
 
--- src/lib.rt:167:1
 returns : tie.Need-returns
 returns c = search needs
 
--- src/lib.rt:167:1
 returns-2 : tie.Need-returns-2
 returns-2 c = search needs
 
