@@ -6,12 +6,13 @@ use mathlib.Core.Bool.{true, false}
 use mathlib.Core.List.{[], _∷_}
 use lib.IntN.{pos, negsuc}
 use lib.ListN.{replicate}
-use lib.Ieee.{Float, nan, inf, fin, binary64, round, ofBits, isNan, ne, le, add, mul, div, ofInt}
+use lib.Ieee.{Float, nan, inf, fin, binary64, round, ofBits}
 use Rattle.leaves.specs.Reply.{answered, refused}
-use Rattle.leaves.specs.Number.{plusZero, isNegative, maxOf, minOf, epsmch, dwarf, absOf}
-use Rattle.leaves.specs.Vector.{dot, dotFrom, axpy, axpyAll, axpyZero, scaleAll, imax, imaxFrom}
+use Rattle.leaves.specs.Number.{plusZero, isNegative, maxOf, minOf, epsmch, dwarf}
+use Rattle.leaves.specs.Vector.{dot, axpy, axpyZero, imax}
 use Rattle.leaves.specs.Root.{rootS}
-use Rattle.leaves.specs.Norm.{rdwarf, rgiant, agiant, add-in, accumulate, finish, norm, enorm}
+use Rattle.leaves.specs.Norm.{rdwarf, rgiant, enorm}
+use Rattle.leaves.specs.Opened.{opened}
 
 -- whole numbers, and bit patterns
 abbrev w : ℕ → Float
@@ -70,6 +71,6 @@ pub leaves-table :
     × (rgiant ≡ b 0x43e6_9eec_5d27_e300)
     × (epsmch ≡ b 0x3cb0_0000_0000_0000)
     × (dwarf ≡ b 0x0010_0000_0000_0000)
-unfolding rootS enorm norm finish accumulate add-in agiant absOf dot dotFrom axpy axpyAll axpyZero scaleAll imax imaxFrom maxOf minOf isNegative isNan rdwarf rgiant epsmch dwarf ofBits add mul div le ne ofInt
+unfolding opened
 leaves-table =
     (refl, refl, refl, refl, refl, refl, refl, refl, refl, refl, refl, refl, refl, refl, refl, refl, refl, refl, refl, refl, refl, refl, refl, refl, refl, refl, refl, refl, refl, refl, refl, refl, refl, refl, refl, refl, refl)

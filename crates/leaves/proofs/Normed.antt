@@ -14,13 +14,13 @@ use lib.Ieee.{Float, nan, inf, fin, binary64, up, down, add, mul, div, lt, le, e
 use lib.Ieee.Compare.{nan-differs}
 use lib.Ieee.Fits.{down-pos, round-is}
 use lib.Ieee.Scale.{round-same}
-use borrow.Author.Tests.{le-ltb}
 use Rattle.leaves.specs.Number.{plusZero, one, absOf, squareOf, isFinite}
-use Rattle.leaves.specs.Root.{rootS, nearRoot, scaled, halfExp, unitsOf}
 use Rattle.leaves.specs.Norm.{rdwarf, agiant, sums, middle, small, large, add-in, step, accumulate, none, finishLarge, finishMiddle, finishSmall, finish, norm}
+use Rattle.leaves.specs.Root.{rootS}
 use Rattle.leaves.specs.Product.{productAll}
 use Rattle.leaves.specs.declared.norm.Sums.{Sums}
 use Rattle.leaves.proofs.Norms.{nan-step}
+use Rattle.leaves.proofs.root.Signs.{Side, no-number, endless, minus-zero, plain, odd-side, root-side, side-not-negative}
 
 -- what holds of both arms of a test
 arms : {A : Type 0} (P : A → Type 0) (b : Bool) {x y : A} → P x → P y → P (cond b x y)
@@ -185,88 +185,60 @@ norm-products ds ps e h i k = go (isFinite (getD ps i nan)) refl
     go false q = absurd (true≢false (sym h ∙ norm-nonfinite (productAll ps ds) i (rw (product-length ps ds e) k) (product-nonfinite ps ds i q)))
 
 -- ---- not below zero: NaN, +infinity, a zero of either sign, or finite with a clear sign
-data Clear : Float → Type 0 where
-  no-number : Clear nan
-  endless : Clear (inf false)
-  minus-zero : {e : ℤ} → Clear (fin true 0 e)
-  plain : {m : ℕ} {e : ℤ} → Clear (fin false m e)
-
-clear-not-below : {x : Float} → Clear x → lt x plusZero ≡ false
-unfolding lt
-clear-not-below no-number = refl
-clear-not-below endless = refl
-clear-not-below (minus-zero {e}) = le-ltb 0 (0 * up e * 1 + 0 * down e) (omega arith)
-clear-not-below (plain {m} {e}) = le-ltb (m * up e * 1) (0 * down e) (omega arith)
-
-abs-clear : (x : Float) → Clear (absOf x)
+abs-side : (x : Float) → Side (absOf x)
 unfolding absOf
-abs-clear nan = no-number
-abs-clear (inf s) = endless
-abs-clear (fin s m e) = plain
+abs-side nan = no-number
+abs-side (inf s) = endless
+abs-side (fin s m e) = plain
 
-odd-clear : (d q k l : ℕ) → Clear (odd d false q k l)
-unfolding odd
-odd-clear d zero k l = plain
-odd-clear d (suc q) k l = plain
-
-units-clear : (q k : ℕ) → Clear (units binary64 false q k)
+units-side : (q k : ℕ) → Side (units binary64 false q k)
 unfolding units
-units-clear q k = arms Clear (ltb (q * 2 ^ k) (2 ^ 2098)) (odd-clear 54 q k 1074) endless
+units-side q k = arms Side (ltb (q * 2 ^ k) (2 ^ 2098)) (odd-side 54 q k 1074) endless
 
-round-clear : (a b : ℕ) → Clear (round binary64 false a b)
-round-clear a b = rw (round-is binary64 false a b) (units-clear _ _)
-
-root-clear : (x : Float) → Clear (rootS x)
-unfolding rootS
-root-clear nan = no-number
-root-clear (inf true) = no-number
-root-clear (inf false) = endless
-root-clear (fin true zero e) = minus-zero
-root-clear (fin false zero e) = plain
-root-clear (fin true (suc m) e) = no-number
-root-clear (fin false (suc m) e) = let n = unitsOf (suc m) e in odd-clear 53 (nearRoot (scaled n)) (halfExp n) 1074
+round-side : (a b : ℕ) → Side (round binary64 false a b)
+round-side a b = rw (round-is binary64 false a b) (units-side _ _)
 
 -- a product with a zero whose sign is set is a zero again
-zero-clear : (a : ℕ) (d e : ℤ) → a ≡ 0 → Clear (round binary64 true a (down d * down e))
-zero-clear a d e q = rw (round-zero true a (down d * down e) (mul-pos (down-pos d) (down-pos e)) q) minus-zero
+zero-side : (a : ℕ) (d e : ℤ) → a ≡ 0 → Side (round binary64 true a (down d * down e))
+zero-side a d e q = rw (round-zero true a (down d * down e) (mul-pos (down-pos d) (down-pos e)) q) minus-zero
 
-mul-clear : {x y : Float} → Clear x → Clear y → Clear (mul binary64 x y)
+mul-side : {x y : Float} → Side x → Side y → Side (mul binary64 x y)
 unfolding mul
-mul-clear no-number q = no-number
-mul-clear endless no-number = no-number
-mul-clear endless endless = endless
-mul-clear endless minus-zero = no-number
-mul-clear endless (plain {m}) = arms Clear (eqb m 0) no-number endless
-mul-clear minus-zero no-number = no-number
-mul-clear minus-zero endless = no-number
-mul-clear (minus-zero {e = d}) (minus-zero {e}) = round-clear (0 * up d * (0 * up e)) (down d * down e)
-mul-clear (minus-zero {e = d}) (plain {m = n} {e}) = zero-clear (0 * up d * (n * up e)) d e (omega arith)
-mul-clear plain no-number = no-number
-mul-clear (plain {m}) endless = arms Clear (eqb m 0) no-number endless
-mul-clear (plain {m} {e = d}) (minus-zero {e}) = zero-clear (m * up d * (0 * up e)) d e (omega arith)
-mul-clear (plain {m} {e = d}) (plain {m = n} {e}) = round-clear (m * up d * (n * up e)) (down d * down e)
+mul-side no-number q = no-number
+mul-side endless no-number = no-number
+mul-side endless endless = endless
+mul-side endless minus-zero = no-number
+mul-side endless (plain {m}) = arms Side (eqb m 0) no-number endless
+mul-side minus-zero no-number = no-number
+mul-side minus-zero endless = no-number
+mul-side (minus-zero {e = d}) (minus-zero {e}) = round-side (0 * up d * (0 * up e)) (down d * down e)
+mul-side (minus-zero {e = d}) (plain {m = n} {e}) = zero-side (0 * up d * (n * up e)) d e (omega arith)
+mul-side plain no-number = no-number
+mul-side (plain {m}) endless = arms Side (eqb m 0) no-number endless
+mul-side (plain {m} {e = d}) (minus-zero {e}) = zero-side (m * up d * (0 * up e)) d e (omega arith)
+mul-side (plain {m} {e = d}) (plain {m = n} {e}) = round-side (m * up d * (n * up e)) (down d * down e)
 
 -- The largest of the large and of the small entries are absolute values; the sums that go under a root may be anything.
 abbrev Signs : Sums → Type 0
-Signs t = Clear (t .x1max) × Clear (t .x3max)
+Signs t = Side (t .x1max) × Side (t .x3max)
 
 signs-step : (g : Float) (t : Sums) (x : Float) → Signs t → Signs (step g t x)
 unfolding middle small large
 signs-step g t x h =
     let v = absOf x in
-    in-one Signs g t v h (arms Signs (lt (t .x3max) v) (h .0, abs-clear x) (arms Signs (eq v plusZero) h h)) (arms Signs (lt (t .x1max) v) (abs-clear x, h .1) h)
+    in-one Signs g t v h (arms Signs (lt (t .x3max) v) (h .0, abs-side x) (arms Signs (eq v plusZero) h h)) (arms Signs (lt (t .x1max) v) (abs-side x, h .1) h)
 
 signs-all : (g : Float) (t : Sums) (xs : List Float) → Signs t → Signs (accumulate g t xs)
 unfolding accumulate
 signs-all g t [] h = h
 signs-all g t (x ∷ xs) h = signs-all g (step g t x) xs (signs-step g t x h)
 
-finish-clear : (t : Sums) → Signs t → Clear (finish t)
+finish-side : (t : Sums) → Signs t → Side (finish t)
 unfolding finish finishLarge finishMiddle finishSmall
-finish-clear t h =
-    arms Clear (ne (t .s1) plusZero) (mul-clear (h .0) (root-clear _))
-    (arms Clear (ne (t .s2) plusZero) (arms Clear (le (t .x3max) (t .s2)) (root-clear _) (root-clear _)) (mul-clear (h .1) (root-clear _)))
+finish-side t h =
+    arms Side (ne (t .s1) plusZero) (mul-side (h .0) (root-side _))
+    (arms Side (ne (t .s2) plusZero) (arms Side (le (t .x3max) (t .s2)) (root-side _) (root-side _)) (mul-side (h .1) (root-side _)))
 
 pub norm-not-negative : (xs : List Float) → lt (norm xs) plusZero ≡ false
 unfolding norm
-norm-not-negative xs = clear-not-below (finish-clear (accumulate (agiant (length xs)) none xs) (signs-all (agiant (length xs)) none xs (plain, plain)))
+norm-not-negative xs = side-not-negative (finish-side (accumulate (agiant (length xs)) none xs) (signs-all (agiant (length xs)) none xs (plain, plain)))
