@@ -1,0 +1,60 @@
+-- The definitions, evaluated. Assumes nothing.
+use mathlib.Core.Path.{_≡_, refl}
+use mathlib.Core.List.{[], _∷_}
+use lib.Ieee.{nan, binary64, ofBits, toBits}
+use Rattle.text.specs.declared.read.Read.the-variants as read
+use Rattle.text.specs.Digit.{valueOf, glyph}
+use Rattle.text.specs.Read.{ended, stopped, turn, readFrom}
+use Rattle.text.specs.Put.{digits, placesFrom, placesOf, hexOf, decimalOf, placed}
+
+hex-is : hexOf 0x3C0 ≡ 51 ∷ 67 ∷ 48 ∷ []
+unfolding hexOf digits placesOf placesFrom glyph
+hex-is = refl
+
+hex-zero : hexOf 0 ≡ 48 ∷ []
+unfolding hexOf digits placesOf placesFrom glyph
+hex-zero = refl
+
+decimal-is : decimalOf 960 ≡ 57 ∷ 54 ∷ 48 ∷ []
+unfolding decimalOf digits placesOf placesFrom glyph
+decimal-is = refl
+
+most-decimal : decimalOf 18446744073709551615 ≡ 49 ∷ 56 ∷ 52 ∷ 52 ∷ 54 ∷ 55 ∷ 52 ∷ 52 ∷ 48 ∷ 55 ∷ 51 ∷ 55 ∷ 48 ∷ 57 ∷ 53 ∷ 53 ∷ 49 ∷ 54 ∷ 49 ∷ 53 ∷ []
+unfolding decimalOf digits placesOf placesFrom glyph
+most-decimal = refl
+
+-- `3c0` and a space, from place 7 on
+read-is : readFrom 7 0 7 (51 ∷ 99 ∷ 48 ∷ 32 ∷ []) ≡ read.Is (record { value = 0x3C0; next = 10 })
+unfolding readFrom turn valueOf stopped ended
+read-is = refl
+
+-- no digit, a letter that is none, and 17 digits
+read-none : readFrom 7 0 7 (32 ∷ []) ≡ read.Refused
+unfolding readFrom turn valueOf stopped ended
+read-none = refl
+
+read-letter : readFrom 7 0 7 (51 ∷ 71 ∷ []) ≡ read.Refused
+unfolding readFrom turn valueOf stopped ended
+read-letter = refl
+
+read-over : readFrom 0 0 0 (49 ∷ 48 ∷ 48 ∷ 48 ∷ 48 ∷ 48 ∷ 48 ∷ 48 ∷ 48 ∷ 48 ∷ 48 ∷ 48 ∷ 48 ∷ 48 ∷ 48 ∷ 48 ∷ 48 ∷ []) ≡ read.Refused
+unfolding readFrom turn valueOf stopped ended
+read-over = refl
+
+-- two bytes into a buffer of three: from place 1 they fit, from place 2 they do not
+placed-is : placed (65 ∷ 66 ∷ []) 1 (0 ∷ 0 ∷ 0 ∷ []) ≡ (3, 0 ∷ 65 ∷ 66 ∷ [])
+unfolding placed
+placed-is = refl
+
+placed-full : placed (65 ∷ 66 ∷ []) 2 (0 ∷ 0 ∷ 0 ∷ []) ≡ (2, 0 ∷ 0 ∷ 0 ∷ [])
+unfolding placed
+placed-full = refl
+
+-- the one NaN's pattern, and any other
+nan-to : toBits binary64 nan ≡ 0x7FF8_0000_0000_0000
+unfolding toBits
+nan-to = refl
+
+nan-of : ofBits binary64 0xFFF0_0000_0000_0001 ≡ nan
+unfolding ofBits
+nan-of = refl

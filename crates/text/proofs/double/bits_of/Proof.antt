@@ -1,0 +1,17 @@
+-- `text::double::bits_of` meets its contract. Assumes nothing.
+use Rattle.text.proofs.Doubles.{is-nan, no-nan}
+use borrow.Author.Needs.{needs}
+use Rattle.text.proofs.double.bits_of.Statement.{statement}
+use Rattle.text.proofs.double.bits_of.Tie as tie
+
+returns : tie.Need-returns
+returns c = is-nan _ (c .if1 .taken)
+
+float-to-bits-result : tie.Need-float-to-bits-result
+float-to-bits-result c = no-nan _ (c .if1 .left)
+
+returns-2 : tie.Need-returns-2
+returns-2 c = search needs
+
+pub bits-of-spec : {M : Type 1} → statement M
+bits-of-spec = tie.close (tie.spec returns float-to-bits-result returns-2)

@@ -1,0 +1,6 @@
+// Numbers and doubles as text in lent byte buffers, for the programs. No function has a requirement: what does not read is
+// refused, and what does not fit is not written.
+pub mod digit;
+pub mod double;
+pub mod put;
+pub mod read;

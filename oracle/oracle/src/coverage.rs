@@ -1,0 +1,232 @@
+//! What a set of cases covered, with counts; and what it must cover.
+
+use crate::classes::{Asked, CLASSES};
+use crate::engines::Working;
+use crate::replies::{Answer, Reply};
+use crate::rooms::Rooms;
+use crate::script::Item;
+use crate::sheets::{self, Fields};
+use api::{Held, Mode};
+use std::collections::BTreeMap;
+
+#[derive(Default)]
+pub struct Coverage {
+    counts: BTreeMap<String, u64>,
+}
+
+fn name(item: &Item) -> &'static str {
+    match item {
+        Item::Factor { .. } => "factor",
+        Item::Zero => "zero solve",
+        Item::Damped(_) => "damped solve",
+        Item::Solve(_) => "held solve",
+        Item::Mul => "held mul_qt_b",
+        Item::Gradient(_) => "gradient",
+        Item::Norm(_) => "norm of Jx",
+        Item::Scale { .. } => "scaling",
+        Item::Search { .. } => "search",
+        Item::Determined => "determined",
+        Item::NonSingular => "is_non_singular",
+        _ => "no call",
+    }
+}
+
+/// Every refusal that each call can give, by document 01's table.
+const REFUSALS: [(&str, &[u8]); 11] = [
+    ("factor", &[2, 3, 6, 8]),
+    ("zero solve", &[2, 3, 4, 5, 8]),
+    ("damped solve", &[2, 3, 4, 5, 6, 8]),
+    ("held solve", &[2, 3, 4, 5, 6, 8]),
+    ("held mul_qt_b", &[2, 3, 5, 8]),
+    ("gradient", &[2, 3, 4, 5, 6, 7, 8]),
+    ("norm of Jx", &[2, 3, 4, 5, 6, 8]),
+    ("scaling", &[2, 3, 5, 6, 7, 8]),
+    ("search", &[2, 3, 4, 5, 6, 7, 8]),
+    ("determined", &[2, 3, 5]),
+    ("is_non_singular", &[2, 3, 5]),
+];
+
+const KINDS: [&str; 13] = [
+    "m < n",
+    "m = 128",
+    "n = 16",
+    "128 by 16",
+    "1 by 1",
+    "minus zero",
+    "subnormal",
+    "below 1e-319",
+    "1e307 or more",
+    "NaN",
+    "infinity",
+    "zero column",
+    "equal columns",
+];
+
+pub fn wanted_of_sheets() -> Vec<String> {
+    let mut wanted: Vec<String> = [1, 2, 3, 6, 7, 8]
+        .iter()
+        .map(|k| format!("sheet refused {k}"))
+        .collect();
+    for what in [
+        "call 1 answered",
+        "call 2 answered",
+        "rank deficient",
+        "J overflows and radius is zero",
+    ] {
+        wanted.push(format!("sheet {what}"));
+    }
+    wanted.extend(KINDS.iter().map(|kind| format!("sheet with {kind}")));
+    wanted.extend(CLASSES.iter().map(|class| class.to_string()));
+    wanted
+}
+
+pub fn wanted_of_calls() -> Vec<String> {
+    let mut wanted = vec!["held solve refused 5, nothing held".to_string()];
+    for (call, numbers) in REFUSALS {
+        wanted.push(format!("{call} ok"));
+        wanted.extend(numbers.iter().map(|k| format!("{call} refused {k}")));
+    }
+    for mode in [
+        "FirstScaled",
+        "FirstUnscaled",
+        "LaterScaled",
+        "LaterUnscaled",
+    ] {
+        wanted.push(format!("scaling ok, {mode}"));
+    }
+    for held in ["Zero", "Damped"] {
+        wanted.push(format!("held solve ok, {held}"));
+        wanted.push(format!("held mul_qt_b ok, {held}"));
+    }
+    wanted.push("factor ok, m < n".to_string());
+    wanted.push("factor ok, m = 128".to_string());
+    wanted.extend(CLASSES.iter().map(|class| class.to_string()));
+    wanted
+}
+
+impl Coverage {
+    pub fn add(&mut self, label: &str) {
+        *self.counts.entry(label.to_string()).or_insert(0) += 1;
+    }
+
+    pub fn missing(&self, wanted: &[String]) -> Vec<String> {
+        wanted
+            .iter()
+            .filter(|label| !self.counts.contains_key(*label))
+            .cloned()
+            .collect()
+    }
+
+    pub fn text(&self) -> String {
+        self.counts
+            .iter()
+            .map(|(label, count)| format!("{count:10} {label}\n"))
+            .collect()
+    }
+
+    fn kinds(&mut self, f: &Fields) {
+        let jacobian = &f.doubles[..f.m * f.n];
+        let columns: Vec<&[f64]> = jacobian.chunks(f.m).collect();
+        let any = |test: fn(f64) -> bool| f.doubles.iter().any(|&x| test(x));
+        let present = [
+            f.m < f.n,
+            f.m == 128,
+            f.n == 16,
+            (f.m, f.n) == (128, 16),
+            (f.m, f.n) == (1, 1),
+            any(|x| x == 0.0 && x.is_sign_negative()),
+            any(f64::is_subnormal),
+            any(|x| x != 0.0 && x.abs() < 1e-319),
+            any(|x| x.is_finite() && x.abs() >= 1e307),
+            any(f64::is_nan),
+            any(f64::is_infinite),
+            columns.iter().any(|c| c.iter().all(|&x| x == 0.0)),
+            columns.windows(2).any(|w| w[0] == w[1]),
+        ];
+        for (kind, _) in KINDS.iter().zip(present).filter(|(_, there)| *there) {
+            self.add(&format!("sheet with {kind}"));
+        }
+    }
+
+    pub fn sheet(&mut self, engine: &dyn Working, bytes: &[u8], printed: &str) {
+        let fields = Fields::read(bytes);
+        let first = printed.lines().next().unwrap_or("");
+        if first.starts_with("refused") {
+            self.add(&format!("sheet {first}"));
+        }
+        let Some(f) = fields else { return };
+        self.kinds(&f);
+        let overflow = f.doubles[..f.m * f.n].iter().any(|x| x.abs() == f64::MAX);
+        if overflow && first == "refused 7" && sheets::ready(engine, &f).is_none() {
+            self.add("sheet J overflows and radius is zero");
+        }
+        if first.starts_with("refused") && first != "refused 8" {
+            return;
+        }
+        if first != "refused 8" {
+            self.add(&format!("sheet call {} answered", f.call));
+            self.rank(&f, printed);
+        }
+        match sheets::ready(engine, &f) {
+            Some(ready) => self.search(engine, &ready.asked()),
+            None => self.add("sheet refused 8 before its search"),
+        }
+    }
+
+    fn rank(&mut self, f: &Fields, printed: &str) {
+        let count = printed
+            .lines()
+            .find_map(|l| l.strip_prefix("determined ")?.parse::<usize>().ok());
+        if count.is_some_and(|k| k < f.m.min(f.n)) {
+            self.add("sheet rank deficient");
+        }
+    }
+
+    pub fn search(&mut self, engine: &dyn Working, asked: &Asked) {
+        for class in asked.classes(engine) {
+            self.add(CLASSES[class]);
+        }
+    }
+
+    /// One call: the rooms before it, and its reply.
+    pub fn call(&mut self, engine: &dyn Working, rooms: &Rooms, item: &Item, reply: &Reply) {
+        let call = name(item);
+        let before = rooms.state;
+        if let Some(asked) = rooms.asked(item) {
+            self.search(engine, &asked);
+        }
+        match &reply.answer {
+            Err(k) => self.add(&format!("{call} refused {k}")),
+            Ok(_) => self.add(&format!("{call} ok")),
+        }
+        match (item, &reply.answer) {
+            (Item::Solve(_), Err(5)) if before.held == Held::Nothing => {
+                self.add("held solve refused 5, nothing held");
+            }
+            (Item::Solve(_) | Item::Mul, Ok(_)) => {
+                self.add(&format!("{call} ok, {:?}", before.held))
+            }
+            (Item::Scale { mode, .. }, Ok(_)) => self.scaling(*mode, &reply.answer),
+            (Item::Factor { m, n, .. }, Ok(_)) if m < n => self.add("factor ok, m < n"),
+            (Item::Factor { m: 128, .. }, Ok(_)) => self.add("factor ok, m = 128"),
+            _ => {}
+        }
+    }
+
+    fn scaling(&mut self, mode: Mode, answer: &Result<Answer, u8>) {
+        self.add(&format!("scaling ok, {mode:?}"));
+        if matches!(answer, Ok(Answer::Doubles(v)) if v[0] == 0.0) {
+            self.add("scaling ok, xnorm zero");
+        }
+    }
+
+    pub fn sequence(&mut self, engine: &dyn Working, items: &[Item]) {
+        let mut rooms = Rooms::none();
+        for item in items {
+            let before = rooms.clone();
+            if let Some(reply) = rooms.play(engine, item) {
+                self.call(engine, &before, item, &reply);
+            }
+        }
+    }
+}

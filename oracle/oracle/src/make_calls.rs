@@ -1,0 +1,269 @@
+//! Random call scripts: lent rooms, a factoring, then further calls, refused ones between.
+
+use crate::pool::{Example, Pool};
+use crate::problem;
+use crate::random::Random;
+use crate::script::{Item, mode_of};
+use api::{Held, State};
+
+/// What the calls of one sequence are drawn from.
+struct Scene {
+    example: Example,
+    store: usize,
+    order: usize,
+}
+
+/// Mostly exact, sometimes longer, sometimes too short.
+fn length(rng: &mut Random, needed: usize) -> usize {
+    match rng.below(100) {
+        0..89 => needed,
+        89..98 => needed + 1 + rng.below(3),
+        _ => rng.below(needed),
+    }
+}
+
+/// A vector for a call: of `length`, now and then with a number that is not finite, perhaps in its surplus alone.
+fn argument(rng: &mut Random, v: &[f64]) -> Vec<f64> {
+    let mut v = v.to_vec();
+    let len = length(rng, v.len());
+    v.resize(len, 1.5);
+    if len > 0 && rng.percent(3) {
+        v[rng.below(len)] = rng.pick(&[f64::NAN, f64::INFINITY, f64::NEG_INFINITY]);
+    }
+    v
+}
+
+fn scalar(rng: &mut Random, x: f64) -> f64 {
+    match rng.below(100) {
+        0..3 => rng.pick(&[f64::NAN, f64::INFINITY, f64::NEG_INFINITY]),
+        3..7 => rng.pick(&[0.0, -0.0, -1.0, -5e-324]),
+        _ => x,
+    }
+}
+
+fn factoring(rng: &mut Random, e: &Example) -> Item {
+    let p = &e.problem;
+    let (mut m, mut n) = (p.m, p.n);
+    match rng.below(100) {
+        0..2 => m = rng.pick(&[0, 129, 1000, usize::MAX]),
+        2..4 => n = rng.pick(&[0, 17, 64, usize::MAX]),
+        _ => {}
+    }
+    Item::Factor {
+        m,
+        n,
+        jacobian: argument(rng, &p.jacobian),
+        residuals: argument(rng, &p.residuals),
+    }
+}
+
+fn vector(rng: &mut Random, n: usize) -> Vec<f64> {
+    let v = problem::vector(rng, n);
+    argument(rng, &v)
+}
+
+fn scaling_call(rng: &mut Random, scene: &Scene) -> Item {
+    let n = scene.example.problem.n;
+    let mode = mode_of(rng.below(4));
+    let mut diag = argument(rng, &scene.example.diag);
+    for x in &mut diag {
+        if rng.percent(10) {
+            *x = rng.pick(&[0.0, -0.0]);
+        }
+    }
+    let bound = if rng.percent(80) {
+        100.0
+    } else {
+        rng.wild().abs()
+    };
+    Item::Scale {
+        mode,
+        diag,
+        x: vector(rng, n),
+        step_bound: scalar(rng, bound),
+    }
+}
+
+fn search_call(rng: &mut Random, scene: &Scene) -> Item {
+    let e = &scene.example;
+    let mut diag = argument(rng, &e.diag);
+    if !diag.is_empty() && rng.percent(3) {
+        let k = rng.below(diag.len());
+        diag[k] = rng.pick(&[0.0, -0.0]);
+    }
+    let (radius, lambda) = if rng.percent(60) {
+        (e.radius, e.lambda)
+    } else {
+        (
+            problem::radius(rng, &e.problem, &e.diag),
+            problem::lambda(rng),
+        )
+    };
+    let lambda = if rng.percent(3) { -1.0 } else { lambda };
+    Item::Search {
+        diag,
+        radius: scalar(rng, radius),
+        lambda,
+    }
+}
+
+/// A diagonal with zero entries among the others, since elimination skips them.
+fn diagonal(rng: &mut Random, n: usize) -> Vec<f64> {
+    let mut v = problem::vector(rng, n);
+    for x in &mut v {
+        if rng.percent(15) {
+            *x = rng.pick(&[0.0, -0.0]);
+        }
+    }
+    argument(rng, &v)
+}
+
+fn odd_state(rng: &mut Random, scene: &Scene) -> Item {
+    let held = rng.pick(&[Held::Empty, Held::Nothing, Held::Zero, Held::Damped]);
+    let p = &scene.example.problem;
+    let m = if rng.percent(20) {
+        rng.pick(&[0, 129, usize::MAX])
+    } else {
+        p.m
+    };
+    let n = if rng.percent(20) {
+        rng.pick(&[0, 17, usize::MAX, 1, 16])
+    } else {
+        p.n
+    };
+    Item::State(State { m, n, held })
+}
+
+/// Any place, or one of work, which calls must clear, or a column norm, which a scaling judges.
+fn store_place(rng: &mut Random, scene: &Scene) -> usize {
+    let n = scene.example.problem.n;
+    let part = rng.pick(&[3, 3, 1, 1, 0]);
+    let k = n * n + part * n + rng.below(n);
+    if part > 0 && k < scene.store {
+        k
+    } else {
+        rng.below(scene.store)
+    }
+}
+
+/// What a careless caller does to the rooms between calls.
+fn meddle(rng: &mut Random, scene: &Scene) -> Item {
+    match rng.below(3) {
+        0 if scene.order > 0 => {
+            let place = rng.below(scene.order);
+            Item::Order(place, rng.below(17))
+        }
+        1 if scene.store > 0 => {
+            let k = store_place(rng, scene);
+            let x = rng.pick(&[f64::NAN, f64::INFINITY, 0.0, -0.0, 1.0, 1e300, 1e-300]);
+            Item::Store(k, x)
+        }
+        _ => odd_state(rng, scene),
+    }
+}
+
+fn call(rng: &mut Random, scene: &Scene) -> Item {
+    let n = scene.example.problem.n;
+    match rng.below(100) {
+        0..14 => Item::Zero,
+        14..28 => Item::Damped(diagonal(rng, n)),
+        28..42 => Item::Solve(vector(rng, n)),
+        42..52 => Item::Mul,
+        52..60 => {
+            let norm = if rng.percent(70) {
+                rng.unit().abs() * 10.0
+            } else {
+                rng.wild().abs()
+            };
+            Item::Gradient(scalar(rng, norm))
+        }
+        60..68 => Item::Norm(vector(rng, n)),
+        68..78 => scaling_call(rng, scene),
+        78..89 => search_call(rng, scene),
+        89..92 => Item::Determined,
+        92..94 => Item::NonSingular,
+        94..99 => meddle(rng, scene),
+        _ => factoring(rng, &scene.example),
+    }
+}
+
+fn example(rng: &mut Random, pool: &Pool) -> Example {
+    if rng.percent(25) {
+        return pool.draw(rng);
+    }
+    let problem = problem::any(rng);
+    let diag = problem::scaling(rng, problem.n);
+    let radius = problem::radius(rng, &problem, &diag);
+    Example {
+        problem,
+        diag,
+        radius,
+        lambda: problem::lambda(rng),
+    }
+}
+
+fn lend(rng: &mut Random, example: Example, items: &mut Vec<Item>) -> Scene {
+    let (m, n) = (example.problem.m, example.problem.n);
+    let (store, order) = (length(rng, n * n + 4 * n), length(rng, n));
+    let (bench, out) = (length(rng, m * n + m), length(rng, n));
+    items.push(Item::Rooms {
+        store,
+        order,
+        bench,
+        out,
+        seed: rng.bits(),
+    });
+    Scene {
+        example,
+        store,
+        order,
+    }
+}
+
+/// A store that nobody factored: a state is claimed over junk, with an order list that passes. Now and then it claims
+/// more columns than were lent.
+fn claim(rng: &mut Random, scene: &Scene, items: &mut Vec<Item>) {
+    let surplus = if rng.percent(15) { 1 + rng.below(3) } else { 0 };
+    let n = (scene.example.problem.n + surplus).min(16);
+    for k in 0..n.min(scene.order) {
+        items.push(Item::Order(k, n - 1 - k));
+    }
+    let held = rng.pick(&[Held::Nothing, Held::Zero, Held::Damped]);
+    items.push(Item::State(State {
+        m: scene.example.problem.m,
+        n,
+        held,
+    }));
+}
+
+pub fn sequence(rng: &mut Random, pool: &Pool) -> Vec<Item> {
+    let mut items = Vec::new();
+    let drawn = example(rng, pool);
+    let scene = lend(rng, drawn, &mut items);
+    match rng.below(100) {
+        0..90 => items.push(factoring(rng, &scene.example)),
+        90..97 => claim(rng, &scene, &mut items),
+        _ => {}
+    }
+    for _ in 0..1 + rng.below(12) {
+        let repeated = rng.percent(8);
+        match items.last() {
+            Some(last) if repeated && !matches!(last, Item::Rooms { .. }) => {
+                items.push(last.clone())
+            }
+            _ => items.push(call(rng, &scene)),
+        }
+    }
+    items.push(Item::End);
+    items
+}
+
+/// A factoring in its rooms and nothing else.
+pub fn factoring_alone(rng: &mut Random, pool: &Pool) -> Vec<Item> {
+    let mut items = Vec::new();
+    let drawn = example(rng, pool);
+    let scene = lend(rng, drawn, &mut items);
+    items.push(factoring(rng, &scene.example));
+    items.push(Item::End);
+    items
+}

@@ -1,0 +1,241 @@
+//! Lent rooms, and the items of a script played on them.
+
+use crate::classes::Asked;
+use crate::engines::Working;
+use crate::random::STEP;
+use crate::replies::{Answer, Reply};
+use crate::script::{Item, held_number};
+use crate::text::{bits, canonical, push_doubles, push_numbers};
+use api::{EMPTY, State};
+
+#[derive(Clone, Debug)]
+pub struct Rooms {
+    pub store: Vec<f64>,
+    pub order: Vec<usize>,
+    pub bench: Vec<f64>,
+    pub out: Vec<f64>,
+    pub state: State,
+}
+
+/// The counter whose bits are the junk: no call may come to rely on a clean room.
+struct Junk(u64);
+
+impl Junk {
+    fn next(&mut self) -> u64 {
+        self.0 = self.0.wrapping_add(STEP);
+        self.0
+    }
+    fn doubles(&mut self, len: usize) -> Vec<f64> {
+        (0..len)
+            .map(|_| canonical(f64::from_bits(self.next())))
+            .collect()
+    }
+}
+
+impl Rooms {
+    pub fn none() -> Rooms {
+        Rooms::lent(0, 0, 0, 0, 0)
+    }
+
+    fn lent(store: usize, order: usize, bench: usize, out: usize, seed: u64) -> Rooms {
+        let mut junk = Junk(seed);
+        Rooms {
+            store: junk.doubles(store),
+            bench: junk.doubles(bench),
+            out: junk.doubles(out),
+            order: (0..order).map(|_| (junk.next() % 32) as usize).collect(),
+            state: EMPTY,
+        }
+    }
+
+    /// What a search is about to be asked; none where its output is too short.
+    pub fn asked<'a>(&'a self, item: &'a Item) -> Option<Asked<'a>> {
+        let Rooms {
+            store,
+            order,
+            out,
+            state,
+            ..
+        } = self;
+        match item {
+            Item::Search {
+                diag,
+                radius,
+                lambda,
+            } if out.len() >= state.n => Some(Asked {
+                state: *state,
+                store,
+                order,
+                diag,
+                radius: *radius,
+                lambda: *lambda,
+            }),
+            _ => None,
+        }
+    }
+
+    /// A reply where the item is a call.
+    pub fn play(&mut self, engine: &dyn Working, item: &Item) -> Option<Reply> {
+        match item {
+            Item::Rooms {
+                store,
+                order,
+                bench,
+                out,
+                seed,
+            } => {
+                *self = Rooms::lent(*store, *order, *bench, *out, *seed);
+            }
+            Item::State(state) => self.state = *state,
+            Item::Order(k, v) => self.order[*k] = *v,
+            Item::Store(k, x) => self.store[*k] = *x,
+            Item::End => {}
+            Item::Scale { .. } => return Some(self.scale(engine, item)),
+            _ => {
+                return Some(Reply {
+                    answer: self.call(engine, item),
+                    scaling: None,
+                });
+            }
+        }
+        None
+    }
+
+    fn scale(&mut self, engine: &dyn Working, item: &Item) -> Reply {
+        let Item::Scale {
+            mode,
+            diag,
+            x,
+            step_bound,
+        } = item
+        else {
+            unreachable!("only a scaling comes here")
+        };
+        let mut lent = diag.clone();
+        let (result, state) = engine.update_diag(
+            self.state,
+            &mut self.store,
+            *mode,
+            &mut lent,
+            x,
+            *step_bound,
+        );
+        self.state = state;
+        let answer = result.map(|start| match start {
+            Some(start) => Answer::Doubles(vec![start.xnorm, start.radius]),
+            None => Answer::Done,
+        });
+        Reply {
+            answer,
+            scaling: Some(lent),
+        }
+    }
+
+    fn call(&mut self, engine: &dyn Working, item: &Item) -> Result<Answer, u8> {
+        let Rooms {
+            store,
+            order,
+            bench,
+            out,
+            state,
+        } = self;
+        let done = |()| Answer::Done;
+        let double = |x| Answer::Doubles(vec![x]);
+        let (answer, after) = match item {
+            Item::Factor {
+                m,
+                n,
+                jacobian,
+                residuals,
+            } => {
+                let (r, s) = engine.factor(*m, *n, jacobian, residuals, store, order, bench);
+                (r.map(done), s)
+            }
+            Item::Zero => {
+                let (r, s) = engine.solve_with_zero_diagonal(*state, store, order, out);
+                (r.map(done), s)
+            }
+            Item::Damped(diag) => {
+                let (r, s) = engine.solve_with_diagonal(*state, store, order, diag, out);
+                (r.map(done), s)
+            }
+            Item::Solve(rhs) => {
+                let (r, s) = engine.solve(*state, store, order, rhs, out);
+                (r.map(done), s)
+            }
+            Item::Mul => {
+                let (r, s) = engine.mul_qt_b(*state, store, out);
+                (r.map(done), s)
+            }
+            Item::Gradient(b_norm) => {
+                let (r, s) = engine.max_a_t_b_scaled(*state, store, order, *b_norm);
+                (r.map(double), s)
+            }
+            Item::Norm(x) => {
+                let (r, s) = engine.a_x_norm(*state, store, order, x);
+                (r.map(double), s)
+            }
+            Item::Search {
+                diag,
+                radius,
+                lambda,
+            } => {
+                let (r, s) = engine.search(*state, store, order, diag, *radius, *lambda, out);
+                (
+                    r.map(|f| Answer::Found {
+                        lambda: f.lambda,
+                        norm: f.norm,
+                        trials: f.trials,
+                    }),
+                    s,
+                )
+            }
+            Item::Determined => {
+                let (r, s) = engine.determined(*state, store);
+                (r.map(Answer::Count), s)
+            }
+            Item::NonSingular => {
+                let (r, s) = engine.is_non_singular(*state, store);
+                (r.map(|yes| Answer::Count(usize::from(yes))), s)
+            }
+            _ => unreachable!("not a call"),
+        };
+        *state = after;
+        answer
+    }
+
+    pub fn write(&self, reply: &Reply, out: &mut String) {
+        reply.write(out);
+        out.push_str("state");
+        push_numbers(
+            out,
+            &[
+                self.state.m,
+                self.state.n,
+                held_number(self.state.held) as usize,
+            ],
+        );
+        out.push_str("\nstore");
+        push_doubles(out, &self.store);
+        out.push_str("\norder");
+        push_numbers(out, &self.order);
+        out.push_str("\nbench");
+        push_doubles(out, &self.bench);
+        out.push_str("\nout");
+        push_doubles(out, &self.out);
+        out.push('\n');
+    }
+
+    /// Bit for bit, NaN one value.
+    pub fn same(&self, other: &Rooms) -> bool {
+        self.state == other.state
+            && self.order == other.order
+            && same_bits(&self.store, &other.store)
+            && same_bits(&self.bench, &other.bench)
+            && same_bits(&self.out, &other.out)
+    }
+}
+
+pub fn same_bits(a: &[f64], b: &[f64]) -> bool {
+    a.len() == b.len() && a.iter().zip(b).all(|(x, y)| bits(*x) == bits(*y))
+}

@@ -1,0 +1,83 @@
+//! Both workings give the same bits, and the cases reach everything that document 01 tells apart.
+
+use oracle::compare;
+use oracle::coverage::{Coverage, wanted_of_calls, wanted_of_sheets};
+use oracle::engines::PLAIN;
+use oracle::pool::Pool;
+use oracle::random::Random;
+use oracle::rooms::Rooms;
+use oracle::sheets::Fields;
+use oracle::{make_calls, make_sheets, script};
+
+#[test]
+fn leaves_agree() {
+    let tally = compare::leaves(20_000, 1);
+    assert!(tally.compared > 30_000);
+    assert_eq!(tally.differ, 0);
+}
+
+#[test]
+fn sheets_and_sequences_agree() {
+    let (sheets, sequences, _) = compare::sheets_and_sequences(2000, 1000, 1);
+    assert_eq!((sheets.compared, sheets.differ), (2000, 0));
+    assert_eq!((sequences.compared, sequences.differ), (1000, 0));
+    assert!(sequences.calls > 5000);
+}
+
+#[test]
+fn sheets_cover() {
+    let pool = Pool::hunt(3);
+    let (mut rng, mut coverage) = (Random::new(3), Coverage::default());
+    for _ in 0..6000 {
+        let bytes = make_sheets::sheet(&mut rng, &pool);
+        coverage.sheet(PLAIN, &bytes, &PLAIN.sheet(&bytes));
+    }
+    assert_eq!(coverage.missing(&wanted_of_sheets()), Vec::<String>::new());
+}
+
+#[test]
+fn calls_cover() {
+    let pool = Pool::hunt(4);
+    let (mut rng, mut coverage) = (Random::new(4), Coverage::default());
+    for _ in 0..6000 {
+        coverage.sequence(PLAIN, &make_calls::sequence(&mut rng, &pool));
+    }
+    assert_eq!(coverage.missing(&wanted_of_calls()), Vec::<String>::new());
+}
+
+/// A script says all that its items say, so that another program that reads it is asked the same.
+#[test]
+fn scripts_read_back() {
+    let pool = Pool::hunt(5);
+    let mut rng = Random::new(5);
+    for _ in 0..200 {
+        let items = make_calls::sequence(&mut rng, &pool);
+        let mut text = String::new();
+        items.iter().for_each(|item| script::write(item, &mut text));
+        let (mut a, mut b) = (Rooms::none(), Rooms::none());
+        for (item, line) in items.iter().zip(text.lines()) {
+            let read = script::read(line).unwrap();
+            let replies = (a.play(PLAIN, item), b.play(PLAIN, &read));
+            assert_eq!(replies.0.map(|r| r.text()), replies.1.map(|r| r.text()));
+            assert!(a.same(&b));
+        }
+    }
+}
+
+/// A sheet's header has 24 bits: each of its values, with doubles that make the exact length for some of them.
+#[test]
+fn every_header() {
+    let mut bytes = vec![0u8; 3 + 8 * 4];
+    for x in bytes[3..].chunks_mut(8) {
+        x.copy_from_slice(&1.0f64.to_be_bytes());
+    }
+    for head in (0..1 << 24).step_by(7).chain(0x11_0000..0x13_0000) {
+        bytes[..3].copy_from_slice(&u32::to_be_bytes(head)[1..]);
+        let said = PLAIN.sheet(&bytes);
+        let exact = Fields::read(&bytes).is_some();
+        assert_eq!(
+            exact,
+            !["refused 1\n", "refused 2\n", "refused 3\n"].contains(&said.as_str())
+        );
+    }
+}

@@ -1,0 +1,204 @@
+//! Module 6 of document 01: gradient, norm of Jx, scaling; and the two questions about R's diagonal.
+
+use crate::leaves::{abs, all_finite, axpy, dot, enorm, is_finite, max};
+use crate::room::{Room, admit};
+use api::{Mode, Start, State};
+
+/// None where the Rust gives None. "The gradient skips columns of norm zero."
+fn largest(room: &Room, order: &[usize], b: &[f64]) -> Option<f64> {
+    let mut most = 0.0;
+    for j in 0..room.n {
+        let scale = room.norms[order[j]];
+        if scale == 0.0 {
+            continue;
+        }
+        let measure = abs(dot(room.part(j, 0, j + 1), &b[..j + 1]) / scale);
+        if measure.is_nan() {
+            return None;
+        }
+        most = max(most, measure);
+    }
+    Some(most)
+}
+
+fn finite_or_8(x: Option<f64>) -> Result<f64, u8> {
+    match x {
+        Some(x) if is_finite(x) => Ok(x),
+        _ => Err(8),
+    }
+}
+
+pub fn max_a_t_b_scaled(
+    state: State,
+    store: &mut [f64],
+    order: &[usize],
+    b_norm: f64,
+) -> (Result<f64, u8>, State) {
+    let n = match admit(state, store, Some(order), &[], false) {
+        Ok(n) => n,
+        Err(k) => return (Err(k), state),
+    };
+    if !is_finite(b_norm) {
+        return (Err(6), state);
+    }
+    if b_norm <= 0.0 {
+        return (Err(7), state);
+    }
+    let room = Room::of(n, store);
+    let b: Vec<f64> = room.qt_b.iter().map(|x| x / b_norm).collect();
+    let answer = largest(&room, order, &b);
+    room.work.fill(0.0);
+    (finite_or_8(answer), state)
+}
+
+pub fn a_x_norm(
+    state: State,
+    store: &mut [f64],
+    order: &[usize],
+    x: &[f64],
+) -> (Result<f64, u8>, State) {
+    let n = match admit(state, store, Some(order), &[x.len()], false) {
+        Ok(n) => n,
+        Err(k) => return (Err(k), state),
+    };
+    if !all_finite(&x[..n]) {
+        return (Err(6), state);
+    }
+    let room = Room::of(n, store);
+    let mut sums = vec![0.0; n];
+    for i in 0..n {
+        axpy(x[order[i]], room.part(i, 0, i + 1), &mut sums[..i + 1]);
+    }
+    room.work.fill(0.0);
+    (finite_or_8(Some(enorm(&sums))), state)
+}
+
+/// The new scaling. "Unscaled mode keeps what was lent."
+fn entries(mode: Mode, norms: &[f64], lent: &[f64]) -> Vec<f64> {
+    let mut new = lent.to_vec();
+    for j in 0..norms.len() {
+        new[j] = match mode {
+            Mode::FirstScaled if norms[j] == 0.0 => 1.0,
+            Mode::FirstScaled => norms[j],
+            Mode::LaterScaled => max(norms[j], lent[j]),
+            Mode::FirstUnscaled | Mode::LaterUnscaled => lent[j],
+        };
+    }
+    new
+}
+
+/// Refusal 8 "when xnorm or radius is not finite, or the radius is rounded to zero".
+fn start(mode: Mode, scaling: &[f64], x: &[f64], step_bound: f64) -> Result<Start, u8> {
+    let mut products = x.to_vec();
+    if mode == Mode::FirstScaled {
+        for j in 0..x.len() {
+            products[j] = scaling[j] * x[j];
+        }
+    }
+    let xnorm = enorm(&products);
+    let radius = if xnorm == 0.0 {
+        step_bound
+    } else {
+        step_bound * xnorm
+    };
+    if is_finite(xnorm) && is_finite(radius) && radius != 0.0 {
+        Ok(Start { xnorm, radius })
+    } else {
+        Err(8)
+    }
+}
+
+fn is_first(mode: Mode) -> bool {
+    mode == Mode::FirstScaled || mode == Mode::FirstUnscaled
+}
+
+/// Tests 6 and 7: x and step bound are read by a first call, the lent scaling by a later scaled one.
+fn scaling_arguments(mode: Mode, lent: &[f64], x: &[f64], step_bound: f64) -> Result<(), u8> {
+    if mode == Mode::LaterScaled && !all_finite(lent) {
+        return Err(6);
+    }
+    if is_first(mode) && !(all_finite(x) && is_finite(step_bound)) {
+        return Err(6);
+    }
+    if is_first(mode) && step_bound <= 0.0 {
+        return Err(7);
+    }
+    Ok(())
+}
+
+fn scale(
+    mode: Mode,
+    norms: &[f64],
+    diag: &mut [f64],
+    x: &[f64],
+    step_bound: f64,
+) -> Result<Option<Start>, u8> {
+    let new = entries(mode, norms, diag);
+    let scaled = mode == Mode::FirstScaled || mode == Mode::LaterScaled;
+    if scaled && !all_finite(&new) {
+        return Err(8);
+    }
+    let answer = if is_first(mode) {
+        Some(start(mode, &new, x, step_bound)?)
+    } else {
+        None
+    };
+    diag.copy_from_slice(&new);
+    Ok(answer)
+}
+
+pub fn update_diag(
+    state: State,
+    store: &mut [f64],
+    mode: Mode,
+    diag: &mut [f64],
+    x: &[f64],
+    step_bound: f64,
+) -> (Result<Option<Start>, u8>, State) {
+    let x_length = if is_first(mode) { x.len() } else { usize::MAX };
+    let n = match admit(state, store, None, &[diag.len(), x_length], false) {
+        Ok(n) => n,
+        Err(k) => return (Err(k), state),
+    };
+    let diag = &mut diag[..n];
+    let x = if is_first(mode) { &x[..n] } else { &[] };
+    if let Err(k) = scaling_arguments(mode, diag, x, step_bound) {
+        return (Err(k), state);
+    }
+    let room = Room::of(n, store);
+    room.work.fill(0.0);
+    (scale(mode, room.norms, diag, x, step_bound), state)
+}
+
+/// "The number of parameters at places before R's first exact zero diagonal"; there is no diagonal from row m on.
+fn places_before_zero(room: &Room, m: usize) -> usize {
+    let mut count = 0;
+    while count < room.n && count < m && room.cell(count, count) != 0.0 {
+        count += 1;
+    }
+    count
+}
+
+pub fn determined(state: State, store: &mut [f64]) -> (Result<usize, u8>, State) {
+    let n = match admit(state, store, None, &[], false) {
+        Ok(n) => n,
+        Err(k) => return (Err(k), state),
+    };
+    let room = Room::of(n, store);
+    room.work.fill(0.0);
+    (Ok(places_before_zero(&room, state.m)), state)
+}
+
+pub fn full_rank(room: &Room, m: usize) -> bool {
+    m >= room.n && (0..room.n).all(|j| room.cell(j, j) != 0.0)
+}
+
+pub fn is_non_singular(state: State, store: &mut [f64]) -> (Result<bool, u8>, State) {
+    let n = match admit(state, store, None, &[], false) {
+        Ok(n) => n,
+        Err(k) => return (Err(k), state),
+    };
+    let room = Room::of(n, store);
+    room.work.fill(0.0);
+    (Ok(full_rank(&room, state.m)), state)
+}

@@ -1,0 +1,88 @@
+//! A way into the private fields of the shown `qr.rs`: its problem from a lent store, and what the store keeps of it.
+
+use super::{CholeskyFactor, LinearLeastSquaresDiagonalProblem, PivotedQR};
+use crate::room::Room;
+use nalgebra::{Dim, Dyn, OMatrix, OVector, U1};
+
+pub type Problem = LinearLeastSquaresDiagonalProblem<f64, Dyn, Dyn>;
+
+pub fn vector<T: nalgebra::Scalar>(entries: &[T]) -> OVector<T, Dyn> {
+    let size = Dyn(entries.len());
+    OVector::from_iterator_generic(size, U1::from_usize(1), entries.iter().copied())
+}
+
+/// Factors exactly `m` by `n` numbers.
+pub fn factor(m: usize, n: usize, jacobian: &[f64], residuals: &[f64]) -> Problem {
+    let jacobian = OMatrix::from_iterator_generic(Dyn(m), Dyn(n), jacobian.iter().copied());
+    PivotedQR::new(jacobian).into_least_squares_diagonal_problem(vector(residuals))
+}
+
+impl Problem {
+    /// The problem that a store holds. The shown Rust reads no row of `upper_r` from n on.
+    pub fn open(room: &Room, store: &[f64], order: &[usize]) -> Problem {
+        let (m, n) = (room.m, room.n);
+        let mut upper_r = OMatrix::zeros_generic(Dyn(m.max(n)), Dyn(n));
+        let square = store[room.square()].chunks(n);
+        for (mut column, kept) in upper_r.column_iter_mut().zip(square) {
+            column.rows_range_mut(..n).copy_from(&vector(kept));
+        }
+        LinearLeastSquaresDiagonalProblem {
+            qt_b: vector(&store[room.qt_b()]),
+            upper_r,
+            l_diag: vector(&store[room.l_diag()]),
+            permutation: vector(order),
+            column_norms: vector(&store[room.norms()]),
+            work: OVector::zeros_generic(Dyn(n), U1::from_usize(1)),
+            m: Dyn(m),
+        }
+    }
+
+    /// The factor that a solve left: of L where the solve was damped, else of R.
+    pub fn held(&mut self, lower: bool) -> CholeskyFactor<'_, f64, Dyn, Dyn> {
+        CholeskyFactor {
+            permutation: &self.permutation,
+            l: &self.upper_r,
+            work: &mut self.work,
+            qt_b: &self.qt_b,
+            lower,
+            l_diag: &self.l_diag,
+        }
+    }
+
+    pub fn order(&self) -> &[usize] {
+        self.permutation.as_slice()
+    }
+
+    /// Writes R with +0 below it, qt_b and the column norms; the rest of what is needed becomes +0.
+    pub fn keep_factored(&self, room: &Room, store: &mut [f64]) {
+        store[..room.needed()].fill(0.0);
+        self.keep_square(room, store, |i, j| i <= j);
+        store[room.qt_b()].copy_from_slice(self.qt_b.as_slice());
+        store[room.norms()].copy_from_slice(self.column_norms.as_slice());
+    }
+
+    /// Writes what a damped solve leaves: L's strict lower part and its diagonal. R is written too, as the shown Rust
+    /// left it, so that a diagonal not put back would show.
+    pub fn keep_damped(&self, room: &Room, store: &mut [f64]) {
+        self.keep_square(room, store, |_, _| true);
+        store[room.l_diag()].copy_from_slice(self.l_diag.as_slice());
+    }
+
+    /// Writes R alone, as the shown Rust left it.
+    pub fn keep_r(&self, room: &Room, store: &mut [f64]) {
+        self.keep_square(room, store, |i, j| i <= j);
+    }
+
+    fn keep_square(
+        &self,
+        room: &Room,
+        store: &mut [f64],
+        kept: impl Fn(usize, usize) -> bool,
+    ) {
+        for j in 0..room.n {
+            for i in (0..room.n).filter(|i| kept(*i, j)) {
+                store[room.square()][j * room.n + i] = self.upper_r[(i, j)];
+            }
+        }
+    }
+}

@@ -1,0 +1,81 @@
+//! Factoring, and the questions about R that need no more than the store.
+
+use crate::qr::doors::{self, Problem};
+use crate::room::{Room, all_finite, finite};
+use api::{EMPTY, Held, State};
+
+/// What factoring is lent.
+pub struct Lent<'a> {
+    pub store: &'a mut [f64],
+    pub order: &'a mut [usize],
+    pub bench: &'a mut [f64],
+}
+
+fn check(m: usize, n: usize, jacobian: &[f64], residuals: &[f64], lent: &Lent) -> Result<Room, u8> {
+    let room = Room::of_sizes(m, n)?;
+    let others = [
+        (jacobian.len(), m * n),
+        (residuals.len(), m),
+        (lent.order.len(), n),
+        (lent.bench.len(), room.bench()),
+    ];
+    room.lengths(lent.store, &others)?;
+    finite(&jacobian[..m * n])?;
+    finite(&residuals[..m])?;
+    Ok(room)
+}
+
+/// The empty state comes back with every refusal.
+pub fn factor(
+    m: usize,
+    n: usize,
+    jacobian: &[f64],
+    residuals: &[f64],
+    lent: Lent,
+) -> (Result<(), u8>, State) {
+    let room = match check(m, n, jacobian, residuals, &lent) {
+        Ok(room) => room,
+        Err(number) => return (Err(number), EMPTY),
+    };
+    let problem = doors::factor(m, n, &jacobian[..m * n], &residuals[..m]);
+    lent.bench[..room.bench()].fill(0.0);
+    problem.keep_factored(&room, lent.store);
+    if all_finite(&lent.store[..room.needed()]) {
+        lent.order[..n].copy_from_slice(problem.order());
+        let held = Held::Nothing;
+        return (Ok(()), State { m, n, held });
+    }
+    lent.store[..room.needed()].fill(0.0);
+    for (place, entry) in lent.order[..n].iter_mut().enumerate() {
+        *entry = place;
+    }
+    (Err(8), EMPTY)
+}
+
+/// The tests of a call that takes a state and a store and nothing else to be tested.
+pub fn check_store(state: State, store: &[f64]) -> Result<Room, u8> {
+    let room = Room::of_state(state)?;
+    room.lengths(store, &[])?;
+    Ok(room)
+}
+
+/// The places before R's first exact zero diagonal. Where m < n, R's row m is zero, whatever the store has there.
+pub fn determined(state: State, store: &mut [f64]) -> Result<usize, u8> {
+    let room = check_store(state, store)?;
+    room.clear_work(store);
+    let places = room.m.min(room.n);
+    let zero = (0..places).find(|j| store[j * room.n + j] == 0.0);
+    Ok(zero.unwrap_or(places))
+}
+
+pub fn is_non_singular(state: State, store: &mut [f64]) -> Result<bool, u8> {
+    let room = check_store(state, store)?;
+    room.clear_work(store);
+    Ok(unordered(&room, store).is_non_singular())
+}
+
+/// The problem for a call that takes no order list, nor reads one.
+pub fn unordered(room: &Room, store: &[f64]) -> Problem {
+    let order: Vec<usize> = (0..room.n).collect();
+    Problem::open(room, store, &order)
+}
