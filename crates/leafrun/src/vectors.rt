@@ -6,7 +6,7 @@ use crate::scan::vector;
 use crate::scan::word;
 use text::double::of_bits;
 
-// 129 numbers are the most that a vector of the rules has.
+// The longest vector that the oracle makes has 1000 numbers; a longer one than the room does not parse.
 fn room() -> [f64; 1024] {
     [0.0; 1024]
 }

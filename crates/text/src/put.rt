@@ -1,4 +1,4 @@
-// Text into a lent buffer from a place on. Each function answers the place after what it wrote; where that does not fit, it writes
+// Text into a lent buffer from a place on. Each public function answers the place after what it wrote; where that does not fit, it writes
 // nothing and answers the place that it was given.
 use crate::digit::capital;
 ghost use mathlib.Core.Path.{_≡_};
