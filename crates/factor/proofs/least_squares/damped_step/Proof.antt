@@ -1,0 +1,71 @@
+-- `factor::least_squares::damped_step` meets its contract. Assumes nothing.
+use Prim.Native.Nat.{_+_, _*_}
+use mathlib.Core.Path.{sym, _∙_}
+use borrow.Author.Needs.{needs}
+use mathlib.Core.List.{_++_}
+use lib.ListN.{drop}
+use Rattle.factor.proofs.Layouts.{square-of}
+use Rattle.factor.proofs.Damped.{sized-lent, room-left, step-left}
+use Rattle.factor.proofs.least_squares.damped_step.Statement.{statement}
+use Rattle.factor.proofs.least_squares.damped_step.Tie as tie
+
+copy-part-requires : tie.Need-copy-part-requires
+copy-part-requires c κs = search needs
+
+mul-nn : tie.Need-mul-nn
+mul-nn c = search needs
+
+slice-relend-prefix-eliminate : tie.Need-slice-relend-prefix-eliminate
+slice-relend-prefix-eliminate c = search needs
+
+slice-aggregate-eliminate : tie.Need-slice-aggregate-eliminate
+slice-aggregate-eliminate c = sym (square-of (c .before .before .before .before .before .before .before .before .before .before .args .n) (c .before .before .before .before .before .before .before .before .before .before .args .store .now) (c .before .before .before .before .before .before .before .before .before .before .pre .0) .whole)
+
+eliminate-requires : tie.Need-eliminate-requires
+eliminate-requires c κs = (square-of (c .before .before .before .before .before .before .before .before .before .before .before .before .args .n) (c .before .before .before .before .before .before .before .before .before .before .before .before .args .store .now) (c .before .before .before .before .before .before .before .before .before .before .before .before .pre .0), (search needs, (search needs, search needs)))
+
+slice-reshare-prefix-backward-in : tie.Need-slice-reshare-prefix-backward-in
+slice-reshare-prefix-backward-in c = search needs
+
+slice-aggregate-backward-in : tie.Need-slice-aggregate-backward-in
+slice-aggregate-backward-in c = sym (square-of (c .before .before .before .before .before .before .before .before .before .before .before .before .before .before .before .before .before .before .before .before .args .n) (c .before .before .before .before .before .before .before .eliminate .last .0 ++ drop (c .before .before .before .before .before .before .before .before .before .before .before .before .before .before .before .before .before .before .before .before .args .n * c .before .before .before .before .before .before .before .before .before .before .before .before .before .before .before .before .before .before .before .before .args .n) (c .before .before .before .before .before .before .before .before .before .before .before .before .before .before .before .before .before .before .before .before .args .store .now)) (sized-lent (c .before .before .before .before .before .before .before .before .before .before .before .before .before .before .before .before .before .before .before .before .args .n) (c .before .before .before .before .before .before .before .eliminate .last .0) (c .before .before .before .before .before .before .before .before .before .before .before .before .before .before .before .before .before .before .before .before .args .store .now) (c .before .before .before .before .before .before .before .before .before .before .before .before .before .before .before .before .before .before .before .before .pre .0) (c .before .before .before .before .before .before .before .eliminate .kept .0)) .whole)
+
+backward-in-requires : tie.Need-backward-in-requires
+backward-in-requires c κs = (square-of (c .before .before .before .before .before .before .before .before .before .before .before .before .before .before .before .before .before .before .before .before .before .before .args .n) (c .before .before .before .before .before .before .before .before .before .eliminate .last .0 ++ drop (c .before .before .before .before .before .before .before .before .before .before .before .before .before .before .before .before .before .before .before .before .before .before .args .n * c .before .before .before .before .before .before .before .before .before .before .before .before .before .before .before .before .before .before .before .before .before .before .args .n) (c .before .before .before .before .before .before .before .before .before .before .before .before .before .before .before .before .before .before .before .before .before .before .args .store .now)) (sized-lent (c .before .before .before .before .before .before .before .before .before .before .before .before .before .before .before .before .before .before .before .before .before .before .args .n) (c .before .before .before .before .before .before .before .before .before .eliminate .last .0) (c .before .before .before .before .before .before .before .before .before .before .before .before .before .before .before .before .before .before .before .before .before .before .args .store .now) (c .before .before .before .before .before .before .before .before .before .before .before .before .before .before .before .before .before .before .before .before .before .before .pre .0) (c .before .before .before .before .before .before .before .before .before .eliminate .kept .0)), (search needs, search needs))
+
+put-damped-requires : tie.Need-put-damped-requires
+put-damped-requires c κs = search needs
+
+same-length : tie.Need-same-length
+same-length c = search needs
+
+same-length-2 : tie.Need-same-length-2
+same-length-2 c = search needs
+
+same-length-3 : tie.Need-same-length-3
+same-length-3 c = search needs
+
+returns : tie.Need-returns
+returns c =
+    let l = c .before .before .before .before .before .before .before .before .before .before .before .before .before .before .before .before .before .eliminate .kept .1 .1 .1 .1 .0 ∙ c .before .before .before .before .before .before .before .before .before .before .before .before .before .before .before .before .before .before .before .before .before .before .before .before .before .before .before .before .before .before .pre .1 .1 .0 in (
+      room-left (c .before .before .before .before .before .before .before .before .before .before .before .before .before .before .before .before .before .before .before .before .before .before .before .before .before .before .before .before .before .before .args .n) (c .before .before .before .before .before .before .before .before .before .before .before .before .before .before .before .before .before .before .before .before .before .before .before .before .before .before .before .before .before .before .args .ds .now) (c .before .before .before .before .before .before .before .before .before .before .before .before .before .before .before .before .before .before .before .before .before .before .before .before .before .before .before .before .before .before .args .store .now) (c .before .before .before .before .before .before .before .before .before .before .before .before .before .before .before .before .before .eliminate .last .0) (c .before .before .before .before .before .before .before .before .before .before .before .before .before .before .before .before .before .before .before .before .before .before .before .copy-part .last .1 .1 .1 .0) (c .before .before .before .before .before .before .before .before .before .before .before .before .before .before .before .before .before .eliminate .last .1 .1 .1 .0) (c .before .before .before .before .before .before .before .before .before .before .before .before .before .before .before .before .before .eliminate .last .1 .1 .1 .1 .0) (c .before .before .before .before .before .before .before .before .before .before .before .before .before .before .before .before .before .before .before .before .before .before .before .before .before .before .before .before .before .before .pre .0) (c .before .before .before .before .before .before .before .before .before .before .before .before .before .before .before .before .before .eliminate .kept .0) (c .before .before .before .before .before .before .before .before .before .before .before .before .before .before .before .before .before .before .before .before .before .before .before .copy-part .ensures) (c .before .before .before .before .before .before .before .before .before .before .before .before .before .before .before .before .before .eliminate .ensures) l (c .before .before .put-damped .ensures),
+      step-left (c .before .before .before .before .before .before .before .before .before .before .before .before .before .before .before .before .before .before .before .before .before .before .before .before .before .before .before .before .before .before .args .n) (c .before .before .before .before .before .before .before .before .before .before .before .before .before .before .before .before .before .before .before .before .before .before .before .before .before .before .before .before .before .before .args .ds .now) (c .before .before .before .before .before .before .before .before .before .before .before .before .before .before .before .before .before .before .before .before .before .before .before .before .before .before .before .before .before .before .args .store .now) (c .before .before .before .before .before .before .before .before .before .before .before .before .before .before .before .before .before .eliminate .last .0) (c .before .before .before .before .before .before .before .before .before .before .before .before .before .before .before .before .before .before .before .before .before .before .before .copy-part .last .1 .1 .1 .0) (c .before .before .before .before .before .before .before .before .before .before .before .before .before .before .before .before .before .eliminate .last .1 .1 .1 .0) (c .before .before .before .before .before .before .before .before .before .before .before .before .before .before .before .before .before .eliminate .last .1 .1 .1 .1 .0) (c .before .before .before .before .before .before .before .before .before .before .before .before .before .before .before .before .before .before .before .before .before .before .before .before .before .before .before .before .before .before .pre .0) (c .before .before .before .before .before .before .before .before .before .before .before .before .before .before .before .before .before .eliminate .kept .0) (c .before .before .before .before .before .before .before .before .before .before .before .before .before .before .before .before .before .before .before .before .before .before .before .copy-part .ensures) (c .before .before .before .before .before .before .before .before .before .before .before .before .before .before .before .before .before .eliminate .ensures) (c .before .before .before .before .before .before .before .backward-in .ensures),
+    )
+
+pub damped-step-spec : {M : Type 1} → statement M
+damped-step-spec =
+    tie.close
+    (tie.spec
+    copy-part-requires
+    mul-nn
+    slice-relend-prefix-eliminate
+    slice-aggregate-eliminate
+    eliminate-requires
+    slice-reshare-prefix-backward-in
+    slice-aggregate-backward-in
+    backward-in-requires
+    put-damped-requires
+    same-length
+    same-length-2
+    same-length-3
+    returns)

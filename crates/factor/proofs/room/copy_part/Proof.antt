@@ -1,0 +1,53 @@
+-- `factor::room::copy_part` meets its contract. Assumes nothing.
+use mathlib.Core.Path.{sym, ap, _∙_}
+use borrow.Author.Needs.{needs}
+use lib.ListN.{length}
+use Rattle.factor.proofs.Lent.{copy-leaves, part-read, part-fits}
+use Rattle.factor.proofs.room.copy_part.Statement.{statement}
+use Rattle.factor.proofs.room.copy_part.Tie as tie
+
+part-at-requires : tie.Need-part-at-requires
+part-at-requires c κs = search needs
+
+add-e : tie.Need-add-e
+add-e c = search needs
+
+mul-copy : tie.Need-mul-copy
+mul-copy c = search needs
+
+sub-copy : tie.Need-sub-copy
+sub-copy c = search needs
+
+part-copy-start : tie.Need-part-copy-start
+part-copy-start c = search needs
+
+part-copy-end : tie.Need-part-copy-end
+part-copy-end c = search needs
+
+copy-requires : tie.Need-copy-requires
+copy-requires c κs = search needs
+
+same-length : tie.Need-same-length
+same-length c = search needs
+
+returns : tie.Need-returns
+returns c =
+    let g = c .before .before .before .before .before .before .before .before .args in
+    let p = c .before .before .before .before .before .before .before .before .pre in
+    let a = c .before .before .before .before .before .part-at in
+    let e = part-read (g .n) (g .k) (a .result) (g .store .now) (a .ensures .0) in
+    copy-leaves _ _ _ (ap length e ∙ part-fits (g .n) (g .k) (g .store .now) (p .0) (p .1 .0) ∙ sym (p .1 .1)) (c .before .before .copy .ensures) ∙ e
+
+pub copy-part-spec : {M : Type 1} → statement M
+copy-part-spec =
+    tie.close
+    (tie.spec
+    part-at-requires
+    add-e
+    mul-copy
+    sub-copy
+    part-copy-start
+    part-copy-end
+    copy-requires
+    same-length
+    returns)

@@ -1,0 +1,45 @@
+-- `factor::update_diag::check_later` meets its contract. Assumes nothing.
+use mathlib.Core.Path.{refl, sym, ap, _∙_}
+use borrow.Author.Needs.{needs}
+use mathlib.Core.Bool.{not}
+use mathlib.Core.List.{[], _∷_}
+use lib.ListN.{length}
+use Rattle.factor.specs.Tests.{roomTests, finiteTest}
+use Rattle.factor.proofs.Refusals.{stopped, test-met}
+use Rattle.factor.proofs.Passed.{room-passed}
+use Rattle.factor.proofs.Measured.{went-to, past, none-left}
+use Rattle.factor.proofs.update_diag.check_later.Statement.{statement}
+use Rattle.factor.proofs.update_diag.check_later.Tie as tie
+
+check-room-requires : tie.Need-check-room-requires
+check-room-requires c κs = search needs
+
+returns : tie.Need-returns
+returns c =
+    let g = c .before .before .before .args in
+    let ts = roomTests (g .st) (g .store) (length (g .diag .now)) in
+    let t = finiteTest (g .st) (g .diag .now) in
+    sym (stopped ts (t ∷ []) _ (c .before .check-room .ensures) (c .if1 .taken))
+
+all-finite-requires : tie.Need-all-finite-requires
+all-finite-requires c κs =
+    let g = c .before .before .before .args in
+    room-passed (g .st) (g .store) (length (g .diag .now)) (sym (c .before .check-room .ensures) ∙ c .if1 .left) .each-long
+
+returns-2 : tie.Need-returns-2
+returns-2 c =
+    let g = c .before .before .before .before .before .args in
+    let ts = roomTests (g .st) (g .store) (length (g .diag .now)) in
+    let t = finiteTest (g .st) (g .diag .now) in
+    went-to ts (t ∷ []) refl (c .before .before .before .check-room .ensures) (c .before .before .if1 .left) (past t [] (ap not (sym (c .before .all-finite .ensures) ∙ c .if2 .taken)) none-left)
+
+returns-3 : tie.Need-returns-3
+returns-3 c =
+    let g = c .before .before .before .before .before .args in
+    let ts = roomTests (g .st) (g .store) (length (g .diag .now)) in
+    let t = finiteTest (g .st) (g .diag .now) in
+    went-to ts (t ∷ []) refl (c .before .before .before .check-room .ensures) (c .before .before .if1 .left) (sym (test-met t [] (ap not (sym (c .before .all-finite .ensures) ∙ c .if2 .left))))
+
+pub check-later-spec : {M : Type 1} → statement M
+check-later-spec =
+    tie.close (tie.spec check-room-requires returns all-finite-requires returns-2 returns-3)

@@ -1,0 +1,20 @@
+-- What the contracts of `factor` cite: modules 2 to 6 of document 01, in its order.
+pub mod Loop
+pub mod State
+pub mod Room
+pub mod Tests
+pub mod Factor
+pub mod Solve
+pub mod Eliminate
+pub mod Edges
+pub mod Held
+pub mod Gradient
+pub mod Scaling
+pub mod Calls
+pub mod AsFactored
+pub mod Rescale
+pub mod Answers
+pub mod Patch
+pub mod Bench
+pub mod Worked
+pub mod Opened

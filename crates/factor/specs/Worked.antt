@@ -1,0 +1,22 @@
+-- What the working of a factoring hands the call above it: whether it stands, and the lent slices.
+use Prim.Native.Nat.{ℕ, _*_}
+use mathlib.Core.Bool.{Bool, true, false}
+use mathlib.Core.Path.{_≡_}
+use mathlib.Core.List.{List}
+use lib.ListN.{length}
+use lib.Ieee.{Float}
+use Rattle.leaves.specs.Reply.{answered, refused}
+use Rattle.factor.specs.State.{empty}
+use Rattle.factor.specs.Room.{joined}
+use Rattle.factor.specs.Factor.{Reduction, uppers, noLower}
+use Rattle.factor.specs.Calls.{Factored, factored}
+use Rattle.factor.specs.declared.state.Held.the-variants as held
+
+-- true: R, qt_b and the norms are finite
+abbrev pub outcome : Bool → ℕ → ℕ → List Float → List ℕ → List Float → Factored
+outcome true m n store order bench = factored (answered tt) (record { m = m; n = n; held = held.Nothing }) store order bench
+outcome false m n store order bench = factored (refused 8) empty store order bench
+
+-- a reduction whose R fills the square
+abbrev pub SquareLong : ℕ → ℕ → Reduction → Type 0
+SquareLong m n f = length (joined (uppers m 0 (f .cols) (f .diag)) (noLower n)) ≡ n * n

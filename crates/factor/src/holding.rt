@@ -1,0 +1,244 @@
+// The held calls on lent slices: what stands in the store after the last solve is R for a zero solve, L for a damped one.
+use crate::check::all_finite;
+use crate::held::forward_lower;
+use crate::held::forward_upper;
+use crate::held::mul_lower;
+use crate::held::mul_upper;
+use crate::room::copy_part;
+use crate::room::rest_room;
+use crate::solve::gather_into;
+use crate::state::Held;
+use crate::wrap::copy_of;
+ghost use mathlib.Core.Path.{_≡_};
+ghost use mathlib.Core.Bool.{true, false};
+ghost use Prim.Native.Nat.{ℕ, _<_, _≤_};
+ghost use lib.ListN.{length, getD, take};
+ghost use Rattle.factor.specs.declared.state.Held.the-variants as held;
+ghost use Rattle.factor.specs.State.{isEmpty, isNothing};
+ghost use Rattle.factor.specs.Room.{Sized, load, lay, rested};
+ghost use Rattle.factor.specs.Tests.{allFinite};
+ghost use Rattle.factor.specs.Solve.{gather};
+ghost use Rattle.factor.specs.Held.{heldSolved, heldProduct};
+ghost use Rattle.factor.specs.Calls.{written};
+
+// ---- the answer goes out
+
+fn write_first(w: &[f64], out: &mut [f64])
+    requires { ⌜ length (now w) ≤ length (now out) ⌝ }
+    ensures { λ _. ⌜ now (out .exit) ≡ written (now (w .entry)) (now (out .entry)) ⌝ }
+{
+    let n = w.len();
+    copy_of(w, &mut out[..n]);
+}
+
+// 8: an output that is refused stays as it was, so the answer is tested before it is written.
+fn write_finite(w: &[f64], out: &mut [f64]) -> bool
+    requires { ⌜ length (now w) ≤ length (now out) ⌝ }
+    ensures { λ r. ⌜ r ≡ allFinite (now (w .entry)) ⌝ }
+    ensures { λ r. ⌜ (r ≡ true → now (out .exit) ≡ written (now (w .entry)) (now (out .entry))) ⌝ }
+    ensures { λ r. ⌜ (r ≡ false → now (out .exit) ≡ now (out .entry)) ⌝ }
+{
+    let n = w.len();
+    if all_finite(w, n) {
+        write_first(w, out);
+        return true;
+    }
+    false
+}
+
+// ---- the held solve: w is the right side on entry and the answer on exit, both in pivot order
+
+fn solve_zero(store: &[f64], n: usize, w: &mut [f64])
+    requires { ⌜ Sized n (now store) ⌝ }
+    requires { ⌜ length (now w) ≡ n ⌝ }
+    ensures { λ _. ⌜ now (w .exit) ≡ heldSolved held.Zero (now (w .entry)) (load n (now (store .entry))) ⌝ }
+{
+    let nn = n * n;
+    forward_upper(&store[..nn], n, w);
+}
+
+fn solve_damped(store: &[f64], n: usize, d: &mut [f64], w: &mut [f64])
+    requires { ⌜ Sized n (now store) ⌝ }
+    requires { ⌜ (length (now d) ≡ n) × (length (now w) ≡ n) ⌝ }
+    ensures { λ _. ⌜ now (w .exit) ≡ heldSolved held.Damped (now (w .entry)) (load n (now (store .entry))) ⌝ }
+{
+    copy_part(store, n, 2, d);
+    let nn = n * n;
+    forward_lower(&store[..nn], n, d, w);
+}
+
+fn solve_held(holds: Held, store: &[f64], n: usize, d: &mut [f64], w: &mut [f64])
+    requires { ⌜ (isEmpty holds ≡ false) × (isNothing holds ≡ false) ⌝ }
+    requires { ⌜ Sized n (now store) ⌝ }
+    requires { ⌜ (length (now d) ≡ n) × (length (now w) ≡ n) ⌝ }
+    ensures { λ _. ⌜ now (w .exit) ≡ heldSolved holds (now (w .entry)) (load n (now (store .entry))) ⌝ }
+{
+    match holds {
+        Held::Empty => {}
+        Held::Nothing => {}
+        Held::Zero => solve_zero(store, n, w),
+        Held::Damped => solve_damped(store, n, d, w),
+    }
+}
+
+// The answer in w, and the room that the call leaves.
+fn solve_step(
+    holds: Held,
+    n: usize,
+    store: &mut [f64],
+    order: &[usize],
+    rhs: &[f64],
+    d: &mut [f64],
+    w: &mut [f64],
+)
+    requires { ⌜ (isEmpty holds ≡ false) × (isNothing holds ≡ false) ⌝ }
+    requires { ⌜ Sized n (now store) ⌝ }
+    requires { ⌜ n ≤ length (now order) ⌝ }
+    requires { ⌜ ((k : ℕ) → k < n → getD (now order) k 0 < n) ⌝ }
+    requires { ⌜ n ≤ length (now rhs) ⌝ }
+    requires { ⌜ (length (now d) ≡ n) × (length (now w) ≡ n) ⌝ }
+    ensures { λ _. ⌜ now (w .exit) ≡ heldSolved holds (gather (take n (now (order .entry))) (now (rhs .entry))) (load n (now (store .entry))) ⌝ }
+    ensures { λ _. ⌜ now (store .exit) ≡ lay (rested (load n (now (store .entry)))) ⌝ }
+{
+    gather_into(order, n, rhs, w);
+    solve_held(holds, store, n, d, w);
+    rest_room(store, n);
+}
+
+pub(crate) fn solve_out(
+    holds: Held,
+    n: usize,
+    store: &mut [f64],
+    order: &[usize],
+    rhs: &[f64],
+    d: &mut [f64],
+    w: &mut [f64],
+    out: &mut [f64],
+)
+    requires { ⌜ (isEmpty holds ≡ false) × (isNothing holds ≡ false) ⌝ }
+    requires { ⌜ Sized n (now store) ⌝ }
+    requires { ⌜ n ≤ length (now order) ⌝ }
+    requires { ⌜ ((k : ℕ) → k < n → getD (now order) k 0 < n) ⌝ }
+    requires { ⌜ (n ≤ length (now rhs)) × (n ≤ length (now out)) ⌝ }
+    requires { ⌜ (length (now d) ≡ n) × (length (now w) ≡ n) ⌝ }
+    ensures { λ _. ⌜ now (store .exit) ≡ lay (rested (load n (now (store .entry)))) ⌝ }
+    ensures { λ _. ⌜ now (out .exit) ≡ written (heldSolved holds (gather (take n (now (order .entry))) (now (rhs .entry))) (load n (now (store .entry)))) (now (out .entry)) ⌝ }
+{
+    solve_step(holds, n, store, order, rhs, d, w);
+    write_first(w, out);
+}
+
+pub(crate) fn solve_finite(
+    holds: Held,
+    n: usize,
+    store: &mut [f64],
+    order: &[usize],
+    rhs: &[f64],
+    d: &mut [f64],
+    w: &mut [f64],
+    out: &mut [f64],
+) -> bool
+    requires { ⌜ (isEmpty holds ≡ false) × (isNothing holds ≡ false) ⌝ }
+    requires { ⌜ Sized n (now store) ⌝ }
+    requires { ⌜ n ≤ length (now order) ⌝ }
+    requires { ⌜ ((k : ℕ) → k < n → getD (now order) k 0 < n) ⌝ }
+    requires { ⌜ (n ≤ length (now rhs)) × (n ≤ length (now out)) ⌝ }
+    requires { ⌜ (length (now d) ≡ n) × (length (now w) ≡ n) ⌝ }
+    ensures { λ r. ⌜ r ≡ allFinite (heldSolved holds (gather (take n (now (order .entry))) (now (rhs .entry))) (load n (now (store .entry)))) ⌝ }
+    ensures { λ _. ⌜ now (store .exit) ≡ lay (rested (load n (now (store .entry)))) ⌝ }
+    ensures { λ r. ⌜ (r ≡ true → now (out .exit) ≡ written (heldSolved holds (gather (take n (now (order .entry))) (now (rhs .entry))) (load n (now (store .entry)))) (now (out .entry))) ⌝ }
+    ensures { λ r. ⌜ (r ≡ false → now (out .exit) ≡ now (out .entry)) ⌝ }
+{
+    solve_step(holds, n, store, order, rhs, d, w);
+    write_finite(w, out)
+}
+
+// ---- the held product
+
+fn mul_zero(store: &[f64], n: usize, q: &mut [f64], w: &mut [f64])
+    requires { ⌜ Sized n (now store) ⌝ }
+    requires { ⌜ (length (now q) ≡ n) × (length (now w) ≡ n) ⌝ }
+    ensures { λ _. ⌜ now (w .exit) ≡ heldProduct held.Zero (load n (now (store .entry))) ⌝ }
+{
+    copy_part(store, n, 0, q);
+    let nn = n * n;
+    mul_upper(&store[..nn], n, q, w);
+}
+
+fn mul_damped(store: &[f64], n: usize, q: &mut [f64], d: &mut [f64], w: &mut [f64])
+    requires { ⌜ Sized n (now store) ⌝ }
+    requires { ⌜ (length (now q) ≡ n) × (length (now d) ≡ n) × (length (now w) ≡ n) ⌝ }
+    ensures { λ _. ⌜ now (w .exit) ≡ heldProduct held.Damped (load n (now (store .entry))) ⌝ }
+{
+    copy_part(store, n, 0, q);
+    copy_part(store, n, 2, d);
+    let nn = n * n;
+    mul_lower(&store[..nn], n, q, d, w);
+}
+
+fn mul_held(holds: Held, store: &[f64], n: usize, q: &mut [f64], d: &mut [f64], w: &mut [f64])
+    requires { ⌜ (isEmpty holds ≡ false) × (isNothing holds ≡ false) ⌝ }
+    requires { ⌜ Sized n (now store) ⌝ }
+    requires { ⌜ (length (now q) ≡ n) × (length (now d) ≡ n) × (length (now w) ≡ n) ⌝ }
+    ensures { λ _. ⌜ now (w .exit) ≡ heldProduct holds (load n (now (store .entry))) ⌝ }
+{
+    match holds {
+        Held::Empty => {}
+        Held::Nothing => {}
+        Held::Zero => mul_zero(store, n, q, w),
+        Held::Damped => mul_damped(store, n, q, d, w),
+    }
+}
+
+fn mul_step(holds: Held, n: usize, store: &mut [f64], q: &mut [f64], d: &mut [f64], w: &mut [f64])
+    requires { ⌜ (isEmpty holds ≡ false) × (isNothing holds ≡ false) ⌝ }
+    requires { ⌜ Sized n (now store) ⌝ }
+    requires { ⌜ (length (now q) ≡ n) × (length (now d) ≡ n) × (length (now w) ≡ n) ⌝ }
+    ensures { λ _. ⌜ now (w .exit) ≡ heldProduct holds (load n (now (store .entry))) ⌝ }
+    ensures { λ _. ⌜ now (store .exit) ≡ lay (rested (load n (now (store .entry)))) ⌝ }
+{
+    mul_held(holds, store, n, q, d, w);
+    rest_room(store, n);
+}
+
+pub(crate) fn mul_out(
+    holds: Held,
+    n: usize,
+    store: &mut [f64],
+    q: &mut [f64],
+    d: &mut [f64],
+    w: &mut [f64],
+    out: &mut [f64],
+)
+    requires { ⌜ (isEmpty holds ≡ false) × (isNothing holds ≡ false) ⌝ }
+    requires { ⌜ Sized n (now store) ⌝ }
+    requires { ⌜ (length (now q) ≡ n) × (length (now d) ≡ n) × (length (now w) ≡ n) ⌝ }
+    requires { ⌜ n ≤ length (now out) ⌝ }
+    ensures { λ _. ⌜ now (store .exit) ≡ lay (rested (load n (now (store .entry)))) ⌝ }
+    ensures { λ _. ⌜ now (out .exit) ≡ written (heldProduct holds (load n (now (store .entry)))) (now (out .entry)) ⌝ }
+{
+    mul_step(holds, n, store, q, d, w);
+    write_first(w, out);
+}
+
+pub(crate) fn mul_finite(
+    holds: Held,
+    n: usize,
+    store: &mut [f64],
+    q: &mut [f64],
+    d: &mut [f64],
+    w: &mut [f64],
+    out: &mut [f64],
+) -> bool
+    requires { ⌜ (isEmpty holds ≡ false) × (isNothing holds ≡ false) ⌝ }
+    requires { ⌜ Sized n (now store) ⌝ }
+    requires { ⌜ (length (now q) ≡ n) × (length (now d) ≡ n) × (length (now w) ≡ n) ⌝ }
+    requires { ⌜ n ≤ length (now out) ⌝ }
+    ensures { λ r. ⌜ r ≡ allFinite (heldProduct holds (load n (now (store .entry)))) ⌝ }
+    ensures { λ _. ⌜ now (store .exit) ≡ lay (rested (load n (now (store .entry)))) ⌝ }
+    ensures { λ r. ⌜ (r ≡ true → now (out .exit) ≡ written (heldProduct holds (load n (now (store .entry)))) (now (out .entry))) ⌝ }
+    ensures { λ r. ⌜ (r ≡ false → now (out .exit) ≡ now (out .entry)) ⌝ }
+{
+    mul_step(holds, n, store, q, d, w);
+    write_finite(w, out)
+}

@@ -1,0 +1,22 @@
+// Modules 2 to 6 of document 01: factoring, solves, elimination, held calls, gradient, norm of Jx, scaling, determined.
+pub mod answer;
+mod beginning;
+mod check;
+pub mod cholesky;
+pub mod eliminate;
+mod factor;
+pub mod factoring;
+pub mod gradient;
+mod held;
+mod holding;
+mod laying;
+pub mod least_squares;
+pub mod measures;
+mod pivoted_qr;
+mod reflect;
+mod room;
+pub mod scaling;
+mod solve;
+pub mod state;
+pub mod update_diag;
+mod wrap;

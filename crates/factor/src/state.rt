@@ -1,0 +1,44 @@
+// Document 01, 'Lent room and what stays in it': the state, and what calls answer.
+use leaves::reply::Done;
+ghost use mathlib.Core.Path.{_≡_};
+ghost use lib.ListN.{replicate};
+ghost use Rattle.leaves.specs.Number.{plusZero};
+ghost use Rattle.factor.specs.State.{withHeld};
+
+// What a store holds below its diagonal and in l_diag.
+pub enum Held {
+    Empty,
+    Nothing,
+    Zero,
+    Damped,
+}
+
+pub struct State {
+    pub m: usize,
+    pub n: usize,
+    pub held: Held,
+}
+
+// What a call without a number of its own answers, and the state that it hands back.
+pub struct Told {
+    pub answer: Done,
+    pub state: State,
+}
+
+// The same problem, with something else held.
+pub(crate) fn with_held(st: State, held: Held) -> State
+    ensures { λ r. ⌜ r ≡ withHeld st held ⌝ }
+{
+    State {
+        m: st.m,
+        n: st.n,
+        held: held,
+    }
+}
+
+// Room for a number of each column.
+pub(crate) fn room16() -> [f64; 16]
+    ensures { λ r. ⌜ r ≡ replicate 16 plusZero ⌝ }
+{
+    [0.0; 16]
+}

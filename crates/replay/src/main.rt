@@ -1,0 +1,32 @@
+// Plays scripted calls from standard input and prints each answer with the whole lent room, bit for bit.
+//
+// A script is one item a line, its words one space apart: a letter, then lengths, places and numbers in hex, doubles as 16 hex
+// digits. `R` lends rooms filled with junk, `T`, `O` and `W` meddle with the state, the order list and the store, `.` ends a case,
+// and every other letter is a call. After a call stand its answer, the state, the store, the order list, the bench and the
+// output. An item that does not fit this program's rooms prints `too large`, one that cannot be read `does not parse`.
+mod call;
+mod feed;
+mod item;
+mod junk;
+mod print;
+mod rescale;
+mod room;
+mod scan;
+mod stage;
+
+fn main() {
+    let mut line = room::line();
+    let mut store = room::store();
+    let mut order = room::order();
+    let mut bench = room::bench();
+    let mut out = room::out();
+    let mut text = room::text();
+    feed::all(
+        &mut line,
+        &mut store,
+        &mut order,
+        &mut bench,
+        &mut out,
+        &mut text,
+    );
+}
