@@ -72,7 +72,7 @@ module _ (n : ℕ) (ds s t w w′ l : List Float) (z : Sized n s) (e : length t 
       ∙ ap (λ (y : List Float). dampedSolved (heads (dampingOf n ds s .0)) (tails (dampingOf n ds s .0)) y) right-is
 
 -- ---- 8 after elimination: emptied, it is the room from before, emptied
-cleared-same : (xs ys : List (List Float)) → length xs ≡ length ys → ((k : ℕ) → k < length xs → length (getD xs k []) ≡ length (getD ys k [])) → cleared xs ≡ cleared ys
+pub cleared-same : (xs ys : List (List Float)) → length xs ≡ length ys → ((k : ℕ) → k < length xs → length (getD xs k []) ≡ length (getD ys k [])) → cleared xs ≡ cleared ys
 unfolding cleared
 cleared-same [] [] e h = refl
 cleared-same [] (y ∷ ys) e h = absurd (omega arith)

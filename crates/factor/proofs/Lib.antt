@@ -40,4 +40,14 @@ pub mod OneMeasure
 pub mod Fitting
 pub mod Swaps
 pub mod Answered
+pub mod Effects
+pub mod Stairs
+pub mod Leavings
+pub mod Reading
+pub mod Keeping
+pub mod Tabled
+pub mod Surplus
+pub mod Histories
+pub mod Wholes
+pub mod Alikes
 pub mod Examples

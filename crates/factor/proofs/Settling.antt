@@ -99,7 +99,7 @@ tails-same : (l : List (List Float)) (j : ℕ) (v : Float) → tails (set l j (v
 unfolding tails
 tails-same l j v = map-set-same (λ (z : List Float). drop 1 z) l j (v ∷ drop 1 (getD l j [])) [] refl
 
-tails-length : (l : List (List Float)) → length (tails l) ≡ length l
+pub tails-length : (l : List (List Float)) → length (tails l) ≡ length l
 unfolding tails
 tails-length l = length-map l (λ (z : List Float). drop 1 z)
 

@@ -13,6 +13,7 @@ pub mod Scaling
 pub mod Calls
 pub mod AsFactored
 pub mod Rescale
+pub mod History
 pub mod Answers
 pub mod Patch
 pub mod Bench
