@@ -1,0 +1,128 @@
+// Document 01, module 7: the trials.
+use crate::LMParameter;
+use crate::bounds::Going;
+use crate::bounds::first_lambda;
+use crate::bounds::is_falling;
+use crate::bounds::is_within;
+use crate::bounds::next_of;
+use crate::bounds::raised_of;
+use crate::bounds::upper_bound;
+use crate::slopes::correction;
+use crate::slopes::gradient_norm;
+use crate::slopes::lower_bound;
+use crate::steps::damped;
+use crate::trust_region::Found;
+use factor::state::Held;
+use factor::state::State;
+use leaves::number::is_finite;
+ghost use mathlib.Core.Path.{_≡_};
+ghost use lib.ListN.{length};
+ghost use Rattle.leaves.specs.Norm.{norm as normOf};
+ghost use Rattle.factor.specs.Room.{load, emptied};
+ghost use Rattle.factor.specs.declared.state.Held.the-variants.{Zero};
+ghost use Rattle.search.specs.declared.trust_region.Found.the-variants as found;
+ghost use Rattle.search.specs.Problem.{scaledStep};
+ghost use Rattle.search.specs.Run.{trialsFrom};
+ghost use Rattle.search.specs.Search.{problemOf, concluded};
+ghost use Rattle.search.specs.Read.{Ready, withStep, unanswered, nextOf, damped as dampedRun};
+
+// An answer, but for its step.
+fn told(lambda: f64, norm: f64, trials: usize) -> Found
+    ensures { λ r. ⌜ r ≡ found.Answer (record { lambda = lambda; «dp_norm» = norm; trials = trials }) ⌝ }
+{
+    Found::Answer(LMParameter {
+        lambda: lambda,
+        dp_norm: norm,
+        trials: trials,
+    })
+}
+
+// At most ten trials. The step that is answered stands in p.
+pub(crate) fn trials(
+    st: State,
+    store: &mut [f64],
+    order: &[usize],
+    diag: &[f64],
+    radius: f64,
+    first: Going,
+    p: &mut [f64],
+    v: &mut [f64],
+) -> Found
+    requires { ⌜ Ready st (now store) (now order) ⌝ }
+    requires { ⌜ (length (now diag) ≡ st .n) × (length (now p) ≡ st .n) × (length (now v) ≡ st .n) ⌝ }
+    ensures { λ r. ⌜ withStep r (now (p .exit)) ≡ concluded 0 unanswered (trialsFrom (problemOf st (now (order .entry)) (now (diag .entry)) radius (load (st .n) (now (store .entry)))) 9 (nextOf first)) ⌝ }
+    ensures { λ _. ⌜ emptied (load (st .n) (now (store .exit))) ≡ emptied (load (st .n) (now (store .entry))) ⌝ }
+{
+    let after = State {
+        m: st.m,
+        n: st.n,
+        held: Held::Damped,
+    };
+    let mut s = first;
+    let mut t: usize = 0;
+    let answer = loop {
+        let lambda = raised_of(s.lambda, s.upper);
+        if !is_finite(lambda) {
+            break Found::Refused(8);
+        }
+        let norm = damped(st, store, order, diag, lambda, p, v);
+        if !is_finite(norm) {
+            break Found::Refused(8);
+        }
+        t += 1;
+        if t == 10 {
+            break told(lambda, norm, t);
+        }
+        let fp = norm - radius;
+        if is_within(radius, fp) {
+            break told(lambda, norm, t);
+        }
+        if is_falling(s, fp) {
+            break told(lambda, norm, t);
+        }
+        let c = correction(after, store, order, diag, radius, fp, norm, p, v);
+        if !is_finite(c) {
+            break Found::Refused(8);
+        }
+        s = next_of(s, lambda, fp, c);
+    };
+    answer
+}
+
+// The bounds, then the trials. At entry p is the undamped step, v the scaled step, and `norm` the norm of that.
+pub(crate) fn bounded(
+    st: State,
+    store: &mut [f64],
+    order: &[usize],
+    diag: &[f64],
+    radius: f64,
+    lambda: f64,
+    norm: f64,
+    p: &mut [f64],
+    v: &mut [f64],
+) -> Found
+    requires { ⌜ Ready st (now store) (now order) ⌝ }
+    requires { ⌜ st .held ≡ Zero ⌝ }
+    requires { ⌜ (length (now diag) ≡ st .n) × (length (now p) ≡ st .n) × (length (now v) ≡ st .n) ⌝ }
+    requires { ⌜ (norm ≡ normOf (now v)) × (now v ≡ scaledStep (problemOf st (now order) (now diag) radius (load (st .n) (now store))) (now p)) ⌝ }
+    ensures { λ r. ⌜ withStep r (now (p .exit)) ≡ concluded 0 unanswered (dampedRun (problemOf st (now (order .entry)) (now (diag .entry)) radius (load (st .n) (now (store .entry)))) lambda (now (p .entry))) ⌝ }
+    ensures { λ _. ⌜ emptied (load (st .n) (now (store .exit))) ≡ emptied (load (st .n) (now (store .entry))) ⌝ }
+{
+    let fp = norm - radius;
+    let lower = lower_bound(st, store, order, diag, radius, fp, norm, p, v);
+    if !is_finite(lower) {
+        return Found::Refused(8);
+    }
+    let g = gradient_norm(st, store, order, diag, p);
+    if !is_finite(g) {
+        return Found::Refused(8);
+    }
+    let upper = upper_bound(g, radius);
+    let first = Going {
+        lambda: first_lambda(lambda, lower, upper, g, norm),
+        lower: lower,
+        upper: upper,
+        fp: fp,
+    };
+    trials(st, store, order, diag, radius, first, p, v)
+}
