@@ -1,15 +1,15 @@
 -- The pivot and the reduction of one column, on a bench by columns. Assumes nothing.
 use mathlib.Core.Path.{_≡_, refl, sym, ap, _∙_}
 use mathlib.Core.Bool.{Bool, true, false, cond}
-use mathlib.Core.List.{List, [], _∷_}
+use mathlib.Core.List.{List, [], _∷_, map}
 use Prim.Native.Nat.{ℕ, zero, suc, _+_, _*_, _<_}
 use native.Mathlib.Nat.{not-suc-le-zero, le-of-suc-le-suc, le-refl}
 use native.Mathlib.Omega.{arith}
 use lib.Dec.{eqb}
-use lib.ListN.{length, getD, take, drop, set, length-set}
+use lib.ListN.{length, getD, take, drop, set, length-set, length-map}
 use lib.Seq.{getD-take, getD-set-same, getD-set-other, take-set-lt, take-set-le, set-getD, set-set, set-comm}
 use lib.Ieee.{Float, nan, neg, lt, eq}
-use borrow.Author.Tests.{eq-eqb, ne-eqb}
+use borrow.Author.Tests.{eq-eqb, ne-eqb, eqb-true, eqb-false}
 use Rattle.leaves.specs.Number.{plusZero}
 use Rattle.leaves.specs.Norm.{norm}
 use Rattle.leaves.specs.Reply.{answered}
@@ -21,6 +21,7 @@ use Rattle.factor.specs.Factor.{Reduction, reduction, swap, pivoted, axi
 use Rattle.factor.specs.Bench.{swapPlace, swept}
 use Rattle.factor.proofs.Loops.{between-keeps}
 use Rattle.factor.proofs.Grids.{grid-read, grid-write}
+use Rattle.factor.proofs.Lays.{norms-at}
 
 -- ---- imax gives a place
 imax-below : (b : ℕ) (v : Float) (i : ℕ) (xs : List Float) → b < i → imaxFrom b v i xs < i + length xs
@@ -125,6 +126,29 @@ unfolding pivoted
 pivot-stays j r e =
     let z : j + imaxOf (drop j (r .diag)) ≡ j = omega arith in
     rw (eq-eqb _ _ z, pivoted)
+
+-- at j = 0 the largest of r_diag is the norm of the column that the pivot brings to place 0
+pub first-norm : (r : Reduction) → 0 < length (r .cols) → r .diag ≡ map norm (r .cols) → getD (r .diag) (imaxOf (r .diag)) nan ≡ norm (getD (pivoted 0 r .cols) 0 [])
+unfolding pivoted swap
+first-norm r h e = ap (λ (d : List Float). getD d k nan) e ∙ norms-at (r .cols) k below ∙ by (eqb (0 + k) 0) refl
+  where
+    k : ℕ
+    k = imaxOf (r .diag)
+
+    here : 0 + k ≡ k
+    here = omega arith
+
+    below : k < length (r .cols)
+    below = let l = ap length e ∙ length-map (r .cols) norm in let p = imax-place (r .diag) (omega arith) in omega arith
+
+    by : (b : Bool) → eqb (0 + k) 0 ≡ b
+        → norm (getD (r .cols) k []) ≡ norm (getD ((cond b r (reduction (swap [] 0 (0 + k) (r .cols)) (set (r .diag) (0 + k) (getD (r .diag) 0 nan)) (set (r .work) (0 + k) (getD (r .work) 0 nan)) (swap 0 0 (0 + k) (r .order)) (r .rhs))) .cols) 0 [])
+    by true f = ap (λ (i : ℕ). norm (getD (r .cols) i [])) (sym here ∙ eqb-true (0 + k) 0 f)
+    by false f = ap norm (sym (
+        getD-set-other (set (r .cols) 0 (getD (r .cols) (0 + k) [])) (0 + k) 0 (getD (r .cols) 0 []) [] (λ (z : 0 ≡ 0 + k). eqb-false (0 + k) 0 f (sym z))
+        ∙ getD-set-same (r .cols) 0 (getD (r .cols) (0 + k) []) [] h
+        ∙ ap (λ (i : ℕ). getD (r .cols) i []) here
+        ))
 
 -- ---- a column reduced
 pub last-column : (n : ℕ) (g g′ : List (List Float)) (y d w : List Float) (o : List ℕ) → length g ≡ suc n → g′ ≡ set g n y

@@ -9,8 +9,8 @@ use crate::wrap::imax_of;
 use crate::wrap::norm_of;
 ghost use mathlib.Core.Path.{_≡_};
 ghost use Prim.Native.Nat.{_+_, _-_, _<_, min};
-ghost use lib.ListN.{length, getD, set, drop};
-ghost use mathlib.Core.List.{[]};
+ghost use lib.ListN.{length, getD, set, take, drop};
+ghost use mathlib.Core.List.{[], map};
 ghost use lib.Ieee.{nan};
 ghost use Rattle.leaves.specs.Norm.{norm};
 ghost use Rattle.factor.specs.Loop.{upto};
@@ -147,7 +147,6 @@ fn reflect_from(
     reflect_all(m, n, j, t, axis, bench, diag, work);
 }
 
-// Of the pivot column at j = 0 r_diag had it already; it is worked out anew there all the same.
 pub(crate) fn norm_from(m: usize, n: usize, k: usize, j: usize, bench: &[f64]) -> f64
     requires { ⌜ Benched m n (now bench) ⌝ }
     requires { ⌜ k < n ⌝ }
@@ -157,6 +156,57 @@ pub(crate) fn norm_from(m: usize, n: usize, k: usize, j: usize, bench: &[f64]) -
     let a = row_at(m, n, k, j);
     let e = a + (m - j);
     norm_of(&bench[a..e])
+}
+
+// At j = 0 r_diag has the norm of the pivot column already: its largest.
+fn first_pivot(
+    m: usize,
+    n: usize,
+    bench: &mut [f64],
+    diag: &mut [f64],
+    work: &mut [f64],
+    order: &mut [usize],
+) -> f64
+    requires { ⌜ Benched m n (now bench) ⌝ }
+    requires { ⌜ 0 < n ⌝ }
+    requires { ⌜ length (now diag) ≡ n ⌝ }
+    requires { ⌜ length (now work) ≡ n ⌝ }
+    requires { ⌜ length (now order) ≡ n ⌝ }
+    requires { ⌜ now diag ≡ map norm (take n (grid m n (now bench))) ⌝ }
+    ensures { λ r. ⌜ r ≡ norm (getD (take n (grid m n (now (bench .exit)))) 0 []) ⌝ }
+    ensures { λ _. ⌜ underWay m n (now (bench .exit)) (now (diag .exit)) (now (work .exit)) (now (order .exit)) ≡ pivoted 0 (underWay m n (now (bench .entry)) (now (diag .entry)) (now (work .entry)) (now (order .entry))) ⌝ }
+{
+    let k = imax_of(diag);
+    let s = diag[k];
+    pivot(m, n, 0, bench, diag, work, order);
+    s
+}
+
+// The norm of the pivot column from row j on, once it stands at place j.
+fn pivot_norm(
+    m: usize,
+    n: usize,
+    j: usize,
+    bench: &mut [f64],
+    diag: &mut [f64],
+    work: &mut [f64],
+    order: &mut [usize],
+) -> f64
+    requires { ⌜ Benched m n (now bench) ⌝ }
+    requires { ⌜ j < n ⌝ }
+    requires { ⌜ j < m ⌝ }
+    requires { ⌜ length (now diag) ≡ n ⌝ }
+    requires { ⌜ length (now work) ≡ n ⌝ }
+    requires { ⌜ length (now order) ≡ n ⌝ }
+    requires { ⌜ (j ≡ 0 → now diag ≡ map norm (take n (grid m n (now bench)))) ⌝ }
+    ensures { λ r. ⌜ r ≡ norm (drop j (getD (take n (grid m n (now (bench .exit)))) j [])) ⌝ }
+    ensures { λ _. ⌜ underWay m n (now (bench .exit)) (now (diag .exit)) (now (work .exit)) (now (order .exit)) ≡ pivoted j (underWay m n (now (bench .entry)) (now (diag .entry)) (now (work .entry)) (now (order .entry))) ⌝ }
+{
+    if j == 0 {
+        return first_pivot(m, n, bench, diag, work, order);
+    }
+    pivot(m, n, j, bench, diag, work, order);
+    norm_from(m, n, j, j, bench)
 }
 
 // A zero reduced norm sets r_diag 0 and skips the reflection.
@@ -177,10 +227,10 @@ fn reduce_column(
     requires { ⌜ length (now work) ≡ n ⌝ }
     requires { ⌜ length (now order) ≡ n ⌝ }
     requires { ⌜ length (now axis) ≡ 128 ⌝ }
+    requires { ⌜ (j ≡ 0 → now diag ≡ map norm (take n (grid m n (now bench)))) ⌝ }
     ensures { λ _. ⌜ underWay m n (now (bench .exit)) (now (diag .exit)) (now (work .exit)) (now (order .exit)) ≡ reduced n j (underWay m n (now (bench .entry)) (now (diag .entry)) (now (work .entry)) (now (order .entry))) ⌝ }
 {
-    pivot(m, n, j, bench, diag, work, order);
-    let s = norm_from(m, n, j, j, bench);
+    let s = pivot_norm(m, n, j, bench, diag, work, order);
     if s == 0.0 {
         diag[j] = 0.0;
         return;
@@ -203,6 +253,7 @@ pub(crate) fn reduce(
     requires { ⌜ length (now work) ≡ n ⌝ }
     requires { ⌜ length (now order) ≡ n ⌝ }
     requires { ⌜ length (now axis) ≡ 128 ⌝ }
+    requires { ⌜ now diag ≡ map norm (take n (grid m n (now bench))) ⌝ }
     ensures { λ _. ⌜ underWay m n (now (bench .exit)) (now (diag .exit)) (now (work .exit)) (now (order .exit)) ≡ upto (reduced n) (min m n) (underWay m n (now (bench .entry)) (now (diag .entry)) (now (work .entry)) (now (order .entry))) ⌝ }
 {
     let top = least(m, n);

@@ -1,9 +1,11 @@
 -- `factor::factor::work_out` meets its contract. Assumes nothing.
-use mathlib.Core.Path.{ap, _∙_}
+use mathlib.Core.Path.{sym, ap, _∙_}
+use mathlib.Core.List.{map}
 use borrow.Author.Needs.{needs}
 use Prim.Native.Nat.{min}
 use Rattle.factor.specs.Loop.{upto}
-use Rattle.factor.specs.Factor.{reduced, reduction-of}
+use Rattle.leaves.specs.Norm.{norm}
+use Rattle.factor.specs.Factor.{Reduction, start, reduced, reduction-of}
 use Rattle.factor.proofs.factor.work_out.Statement.{statement}
 use Rattle.factor.proofs.factor.work_out.Tie as tie
 
@@ -11,10 +13,11 @@ begin-requires : tie.Need-begin-requires
 begin-requires c κs = search needs
 
 reduce-requires : tie.Need-reduce-requires
+unfolding start
 reduce-requires c κs =
     let x = c .before .before .before .before .before .before .before .before .before .before .before .before .before .before .before .begin in
     let p = c .before .before .before .before .before .before .before .before .before .before .before .before .before .before .before .before .before .before .before .before .before .before .before .before .before .before .before .before .before .pre in
-    (record { rows = p .0 .rows; across = p .0 .across; whole = x .kept .1 .1 .1 .1 .1 .1 .1 .1 .0 ∙ p .0 .whole }, (x .kept .1 .1 .1 .1 .1 .0 ∙ p .1 .1 .1 .1 .1 .0, (x .kept .1 .1 .1 .1 .1 .1 .0 ∙ p .1 .1 .1 .1 .1 .1 .0, (x .kept .1 .1 .1 .1 .1 .1 .1 .0 ∙ p .1 .1 .1 .1 .1 .1 .1 .0, p .1 .1 .1 .1 .1 .1 .1 .1))))
+    (record { rows = p .0 .rows; across = p .0 .across; whole = x .kept .1 .1 .1 .1 .1 .1 .1 .1 .0 ∙ p .0 .whole }, (x .kept .1 .1 .1 .1 .1 .0 ∙ p .1 .1 .1 .1 .1 .0, (x .kept .1 .1 .1 .1 .1 .1 .0 ∙ p .1 .1 .1 .1 .1 .1 .0, (x .kept .1 .1 .1 .1 .1 .1 .1 .0 ∙ p .1 .1 .1 .1 .1 .1 .1 .0, (p .1 .1 .1 .1 .1 .1 .1 .1, ap (λ (z : Reduction). z .diag) (x .ensures .1) ∙ ap (λ (z : Reduction). map norm (z .cols)) (sym (x .ensures .1)))))))
 
 same-length : tie.Need-same-length
 same-length c = search needs

@@ -1,13 +1,15 @@
 -- `factor::pivoted_qr::reduce` meets its contract. Assumes nothing.
 use Prim.Native.Nat.{_-_, _≤_}
-use mathlib.Core.Path.{_≡_, refl, _∙_}
+use mathlib.Core.Path.{_≡_, refl, sym, _∙_}
 use native.Mathlib.Omega.{arith}
 use borrow.Author.Needs.{needs}
 use Prim.Native.Nat.{min}
+use mathlib.Core.List.{map}
 use lib.ListN.{length}
 use Rattle.factor.specs.Loop.{upto}
 use Rattle.factor.proofs.Loops.{upto-none, upto-turn}
-use Rattle.factor.specs.Factor.{reduced}
+use Rattle.leaves.specs.Norm.{norm}
+use Rattle.factor.specs.Factor.{Reduction, reduced}
 use Rattle.factor.specs.Bench.{underWay}
 use Rattle.factor.proofs.pivoted_qr.reduce.Statement.{statement}
 use Rattle.factor.proofs.pivoted_qr.reduce.Tie as tie
@@ -21,11 +23,19 @@ abbrev μ-loop : tie.MeasureT-loop
 least-requires : tie.Need-least-requires Inv-loop μ-loop
 least-requires c κs = search needs
 
+-- before the first column nothing has moved
+begun : {r s : Reduction} → r ≡ s → s .diag ≡ map norm (s .cols) → r .diag ≡ map norm (r .cols)
+begun e h = rw e h
+
 loop-holds : tie.Need-loop-holds Inv-loop μ-loop
 loop-holds c = let g = c .before .before .before .before .before .before .args in (search needs, c .least .ensures, refl, refl, refl, refl, refl, upto-none (reduced (g .n)) _)
 
 reduce-column-requires : tie.Need-reduce-column-requires Inv-loop μ-loop
-reduce-column-requires c κs = search needs
+reduce-column-requires c κs =
+    let g = c .before .before .before .before .before .before .before .before .before .before .before .before .before .args in
+    let l = c .before .before .before .before .before .before .loop in
+    let p = c .before .before .before .before .before .before .before .before .before .before .before .before .before .pre in
+    (search needs, (search needs, (search needs, (search needs, (search needs, (search needs, (search needs, λ z. begun ((rw z at (l .inv .7)) ∙ sym (upto-none (reduced (g .n)) _)) (p .1 .1 .1 .1 .1))))))))
 
 add-j : tie.Need-add-j Inv-loop μ-loop
 add-j c = search needs

@@ -1,22 +1,17 @@
 -- `factor::pivoted_qr::reduce_column` meets its contract. Assumes nothing.
-use mathlib.Core.Path.{sym, ap, _∙_}
 use native.Mathlib.Omega.{arith}
 use borrow.Author.Needs.{needs}
-use mathlib.Core.List.{List, []}
-use lib.ListN.{drop, length-take}
-use lib.Seq.{getD-take}
-use lib.Ieee.{Float, ofBits}
-use Rattle.leaves.specs.Norm.{norm}
-use Rattle.factor.specs.Bench.{grid, underWay}
+use lib.ListN.{length-take}
+use lib.Ieee.{ofBits}
+use Rattle.factor.specs.Bench.{underWay}
 use Rattle.factor.proofs.Pivots.{reduced-zero, reduced-by}
 use Rattle.factor.proofs.pivoted_qr.reduce_column.Statement.{statement}
 use Rattle.factor.proofs.pivoted_qr.reduce_column.Tie as tie
 
-pivot-requires : tie.Need-pivot-requires
-pivot-requires c κs = search needs
-
-norm-from-requires : tie.Need-norm-from-requires
-norm-from-requires c κs = search needs
+pivot-norm-requires : tie.Need-pivot-norm-requires
+pivot-norm-requires c κs =
+    let p = c .before .before .before .before .before .before .before .before .before .pre in
+    (p .0, (p .1 .0, (p .1 .1 .0, (p .1 .1 .1 .0, (p .1 .1 .1 .1 .0, (p .1 .1 .1 .1 .1 .0, p .1 .1 .1 .1 .1 .1 .1))))))
 
 mul-diag : tie.Need-mul-diag
 mul-diag c = search needs
@@ -39,13 +34,11 @@ same-length-4 c = search needs
 returns : tie.Need-returns
 unfolding ofBits
 returns c =
-    let g = c .before .before .before .before .before .before .before .before .before .before .before .before .before .before .before .before .before .before .before .before .before .args in
-    let x = c .before .before .before .before .before .before .before .before .before .before .before .pivot in
-    let b = grid (g .m) (g .n) (x .last .1 .1 .1 .0) in
-    let s = c .before .norm-from .ensures ∙ ap (λ (l : List Float). norm (drop (g .j) l)) (sym (getD-take (g .n) b (g .j) [] (c .before .before .before .before .before .before .before .before .before .before .before .before .before .before .before .before .before .before .before .before .before .pre .1 .0))) in
+    let g = c .before .before .before .before .before .before .before .before .before .before .before .before .before .before .before .before .before .before .before .args in
+    let x = c .before .before .before .before .before .before .before .before .before .pivot-norm in
     let r = underWay (g .m) (g .n) (g .bench .now) (g .diag .now) (g .work .now) (g .order .now) in
     let p = underWay (g .m) (g .n) (x .last .1 .1 .1 .0) (x .last .1 .1 .1 .1 .0) (x .last .1 .1 .1 .1 .1 .0) (x .last .1 .1 .1 .1 .1 .1 .0) in
-    reduced-zero (g .n) (g .j) r p (c .before .norm-from .result) (x .ensures) s (c .if1 .taken)
+    reduced-zero (g .n) (g .j) r p (x .result) (x .ensures .1) (x .ensures .0) (c .if1 .taken)
 
 sub-len : tie.Need-sub-len
 sub-len c = search needs
@@ -77,20 +70,17 @@ same-length-9 c = search needs
 returns-2 : tie.Need-returns-2
 unfolding ofBits
 returns-2 c =
-    let g = c .before .before .before .before .before .before .before .before .before .before .before .before .before .before .before .before .before .before .before .before .before .before .before .before .before .before .before .before .before .before .before .before .before .before .args in
-    let x = c .before .before .before .before .before .before .before .before .before .before .before .before .before .before .before .before .before .before .before .before .before .before .before .before .pivot in
-    let b = grid (g .m) (g .n) (x .last .1 .1 .1 .0) in
-    let s = c .before .before .before .before .before .before .before .before .before .before .before .before .before .before .norm-from .ensures ∙ ap (λ (l : List Float). norm (drop (g .j) l)) (sym (getD-take (g .n) b (g .j) [] (c .before .before .before .before .before .before .before .before .before .before .before .before .before .before .before .before .before .before .before .before .before .before .before .before .before .before .before .before .before .before .before .before .before .before .pre .1 .0))) in
+    let g = c .before .before .before .before .before .before .before .before .before .before .before .before .before .before .before .before .before .before .before .before .before .before .before .before .before .before .before .before .before .before .before .before .args in
+    let x = c .before .before .before .before .before .before .before .before .before .before .before .before .before .before .before .before .before .before .before .before .before .before .pivot-norm in
     let r = underWay (g .m) (g .n) (g .bench .now) (g .diag .now) (g .work .now) (g .order .now) in
     let p = underWay (g .m) (g .n) (x .last .1 .1 .1 .0) (x .last .1 .1 .1 .1 .0) (x .last .1 .1 .1 .1 .1 .0) (x .last .1 .1 .1 .1 .1 .1 .0) in
-    reduced-by (g .n) (g .j) r p _ (c .before .before .before .before .before .before .before .before .before .before .before .before .before .before .norm-from .result) (x .ensures) s (c .before .before .before .before .before .before .before .before .before .before .before .before .before .if1 .left) (c .before .before .before .before .before .before .before .before .reflect-from .ensures (x .last .1 .1 .1 .1 .1 .1 .0))
+    reduced-by (g .n) (g .j) r p _ (x .result) (x .ensures .1) (x .ensures .0) (c .before .before .before .before .before .before .before .before .before .before .before .before .before .if1 .left) (c .before .before .before .before .before .before .before .before .reflect-from .ensures (x .last .1 .1 .1 .1 .1 .1 .0))
 
 pub reduce-column-spec : {M : Type 1} → statement M
 reduce-column-spec =
     tie.close
     (tie.spec
-    pivot-requires
-    norm-from-requires
+    pivot-norm-requires
     mul-diag
     slice-write-diag
     same-length
