@@ -2,6 +2,7 @@
 pub mod Loops
 pub mod Squares
 pub mod Splices
+pub mod Piecewise
 pub mod Layouts
 pub mod Lent
 pub mod Entries
@@ -35,6 +36,8 @@ pub mod Outcomes
 pub mod OneSolves
 pub mod Holds
 pub mod OneHeld
+pub mod Readers
+pub mod OneReader
 pub mod Measured
 pub mod OneMeasure
 pub mod Fitting

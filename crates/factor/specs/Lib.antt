@@ -11,6 +11,7 @@ pub mod Held
 pub mod Gradient
 pub mod Scaling
 pub mod Calls
+pub mod Reader
 pub mod AsFactored
 pub mod Rescale
 pub mod History

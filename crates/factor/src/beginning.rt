@@ -1,4 +1,5 @@
 // Document 01, module 2: what factoring starts from.
+use crate::pieces::copy_long;
 use crate::pivoted_qr::norm_from;
 use crate::wrap::copy_of;
 ghost use mathlib.Core.Path.{_≡_};
@@ -19,7 +20,7 @@ fn copy_in(m: usize, n: usize, jacobian: &[f64], residuals: &[f64], bench: &mut 
 {
     let p = m * n;
     let e = p + m;
-    copy_of(&jacobian[..p], &mut bench[..p]);
+    copy_long(&jacobian[..p], &mut bench[..p]);
     copy_of(&residuals[..m], &mut bench[p..e]);
 }
 

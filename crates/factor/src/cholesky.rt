@@ -34,7 +34,7 @@ fn check_held(st: State, store: usize, order: &[usize], rhs: usize, out: usize) 
     if is_nothing(holds) { 5 } else { 0 }
 }
 
-fn check_solve(st: State, store: usize, order: &[usize], rhs: &[f64], out: usize) -> u8
+pub(crate) fn check_solve(st: State, store: usize, order: &[usize], rhs: &[f64], out: usize) -> u8
     ensures { λ r. ⌜ r ≡ firstOf (solveTests st store (now (order .entry)) (min (length (now (rhs .entry))) out) ++ (heldTest st ∷ finiteTest st (now (rhs .entry)) ∷ [])) ⌝ }
 {
     let c = check_held(st, store, order, rhs.len(), out);
@@ -45,7 +45,7 @@ fn check_solve(st: State, store: usize, order: &[usize], rhs: &[f64], out: usize
     if all_finite(rhs, n) { 0 } else { 6 }
 }
 
-fn check_mul(st: State, store: usize, out: usize) -> u8
+pub(crate) fn check_mul(st: State, store: usize, out: usize) -> u8
     ensures { λ r. ⌜ r ≡ firstOf (roomTests st store out ++ (heldTest st ∷ [])) ⌝ }
 {
     let c = check_room(st, store, out);

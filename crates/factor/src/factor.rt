@@ -4,6 +4,7 @@ use crate::beginning::count;
 use crate::check::all_finite;
 use crate::laying::lay_out;
 use crate::laying::take_rhs;
+use crate::pieces::clear_long;
 use crate::pivoted_qr::reduce;
 use crate::state::room16;
 ghost use mathlib.Core.Path.{_≡_};
@@ -111,7 +112,7 @@ fn factor_with(
         axis,
     );
     lay_store(m, n, bench, diag, store);
-    leaves::vector::fill(0.0, bench);
+    clear_long(bench);
 }
 
 fn factor_room(

@@ -32,7 +32,7 @@ fn write_first(w: &[f64], out: &mut [f64])
 }
 
 // 8: an output that is refused stays as it was, so the answer is tested before it is written.
-fn write_finite(w: &[f64], out: &mut [f64]) -> bool
+pub(crate) fn write_finite(w: &[f64], out: &mut [f64]) -> bool
     requires { ⌜ length (now w) ≤ length (now out) ⌝ }
     ensures { λ r. ⌜ r ≡ allFinite (now (w .entry)) ⌝ }
     ensures { λ r. ⌜ (r ≡ true → now (out .exit) ≡ written (now (w .entry)) (now (out .entry))) ⌝ }
@@ -67,7 +67,7 @@ fn solve_damped(store: &[f64], n: usize, d: &mut [f64], w: &mut [f64])
     forward_lower(&store[..nn], n, d, w);
 }
 
-fn solve_held(holds: Held, store: &[f64], n: usize, d: &mut [f64], w: &mut [f64])
+pub(crate) fn solve_held(holds: Held, store: &[f64], n: usize, d: &mut [f64], w: &mut [f64])
     requires { ⌜ (isEmpty holds ≡ false) × (isNothing holds ≡ false) ⌝ }
     requires { ⌜ Sized n (now store) ⌝ }
     requires { ⌜ (length (now d) ≡ n) × (length (now w) ≡ n) ⌝ }
@@ -176,7 +176,14 @@ fn mul_damped(store: &[f64], n: usize, q: &mut [f64], d: &mut [f64], w: &mut [f6
     mul_lower(&store[..nn], n, q, d, w);
 }
 
-fn mul_held(holds: Held, store: &[f64], n: usize, q: &mut [f64], d: &mut [f64], w: &mut [f64])
+pub(crate) fn mul_held(
+    holds: Held,
+    store: &[f64],
+    n: usize,
+    q: &mut [f64],
+    d: &mut [f64],
+    w: &mut [f64],
+)
     requires { ⌜ (isEmpty holds ≡ false) × (isNothing holds ≡ false) ⌝ }
     requires { ⌜ Sized n (now store) ⌝ }
     requires { ⌜ (length (now q) ≡ n) × (length (now d) ≡ n) × (length (now w) ≡ n) ⌝ }

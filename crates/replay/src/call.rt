@@ -1,4 +1,6 @@
 // The calls of a script.
+use crate::beside;
+use crate::beside::Pair;
 use crate::print;
 use crate::room;
 use crate::scan::doubles;
@@ -7,7 +9,6 @@ use crate::scan::word;
 use factor::state::State;
 use factor::state::Told;
 use text::double::of_bits;
-use text::put;
 
 // The state after an item, the place after its text, and whether it was a call, after which the rooms are printed.
 pub struct After {
@@ -36,6 +37,12 @@ fn told(t: Told, text: &mut [u8], at: usize) -> After {
     let answer = t.answer;
     let after = t.state;
     answered(after, print::done(answer, text, at))
+}
+
+fn held(p: Pair, text: &mut [u8], at: usize) -> After {
+    let answer = p.answer;
+    let after = p.state;
+    answered(after, print::held(answer, p.same, text, at))
 }
 
 // The four numbers that a factoring begins with, and the place of its doubles.
@@ -129,8 +136,8 @@ pub fn zero(
 }
 
 pub fn mul(st: State, store: &mut [f64], out: &mut [f64], text: &mut [u8], at: usize) -> After {
-    let t = factor::cholesky::mul_qt_b(st, store, out);
-    told(t, text, at)
+    let p = beside::mul(st, store, out);
+    held(p, text, at)
 }
 
 pub fn gradient(
@@ -179,8 +186,8 @@ fn norm(
     answered(after, print::value(answer, text, at))
 }
 
-// `rest` is the place after the diagonal, where the radius and lambda stand.
-fn search(
+// `rest` is the place after the scaling, where the radius and lambda stand.
+fn seek(
     s: &[u8],
     rest: usize,
     st: State,
@@ -191,7 +198,23 @@ fn search(
     text: &mut [u8],
     at: usize,
 ) -> After {
-    answered(st, put::bytes(b"not yet\n", text, at))
+    let radius = word(s, rest);
+    let lambda = word(s, radius.next);
+    if !lambda.good {
+        return unplayed(false, st, text, at);
+    }
+    let t = search::trust_region::determine_lambda_and_parameter_update(
+        st,
+        store,
+        order,
+        diag,
+        of_bits(radius.value),
+        of_bits(lambda.value),
+        out,
+    );
+    let answer = t.answer;
+    let after = t.state;
+    answered(after, print::found(answer, text, at))
 }
 
 // The calls that one vector is lent to: `v`, with `rest` the place after it.
@@ -212,13 +235,13 @@ fn on_vector(
         return told(t, text, at);
     }
     if op == b'S' {
-        let t = factor::cholesky::solve(st, store, order, v, out);
-        return told(t, text, at);
+        let p = beside::solve(st, store, order, v, out);
+        return held(p, text, at);
     }
     if op == b'N' {
         return norm(st, store, order, v, text, at);
     }
-    search(s, rest, st, store, order, v, out, text, at)
+    seek(s, rest, st, store, order, v, out, text, at)
 }
 
 fn vector_in(

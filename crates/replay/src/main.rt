@@ -3,7 +3,9 @@
 // A script is one item a line, its words one space apart: a letter, then lengths, places and numbers in hex, doubles as 16 hex
 // digits. `R` lends rooms filled with junk, `T`, `O` and `W` meddle with the state, the order list and the store, `.` ends a case,
 // and every other letter is a call. After a call stand its answer, the state, the store, the order list, the bench and the
-// output. An item that does not fit this program's rooms prints `too large`, one that cannot be read `does not parse`.
+// output. A held call is played through the reader as well, on copies; where that leaves anything else, `reader differs` stands
+// after the answer. An item that does not fit this program's rooms prints `too large`, one that cannot be read `does not parse`.
+mod beside;
 mod call;
 mod feed;
 mod item;

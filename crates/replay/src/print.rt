@@ -7,6 +7,7 @@ use factor::state::State;
 use leaves::reply::Done;
 use leaves::reply::Place;
 use leaves::reply::Value;
+use search::trust_region::Found;
 use text::double::bits_of;
 use text::put;
 
@@ -65,6 +66,15 @@ pub fn done(r: Done, text: &mut [u8], at: usize) -> usize {
     }
 }
 
+// A held call's answer, and a line that no oracle prints where the reader left anything else.
+pub fn held(r: Done, same: bool, text: &mut [u8], at: usize) -> usize {
+    let a = done(r, text, at);
+    if same {
+        return a;
+    }
+    put::bytes(b"reader differs\n", text, a)
+}
+
 pub fn gradient(r: Gradient, text: &mut [u8], at: usize) -> usize {
     match r {
         Gradient::Measure(x) => measured(x, text, at),
@@ -93,6 +103,21 @@ pub fn truth(r: Truth, text: &mut [u8], at: usize) -> usize {
     }
 }
 
+fn sought(lambda: f64, norm: f64, trials: usize, text: &mut [u8], at: usize) -> usize {
+    let a = put::bytes(b"ok", text, at);
+    let b = double(lambda, text, a);
+    let c = double(norm, text, b);
+    let d = number(trials, text, c);
+    put::bytes(b"\n", text, d)
+}
+
+pub fn found(r: Found, text: &mut [u8], at: usize) -> usize {
+    match r {
+        Found::Answer(a) => sought(a.lambda, a.dp_norm, a.trials, text, at),
+        Found::Refused(k) => refused(k, text, at),
+    }
+}
+
 fn started(xnorm: f64, radius: f64, text: &mut [u8], at: usize) -> usize {
     let a = put::bytes(b"ok", text, at);
     let b = double(xnorm, text, a);
@@ -114,7 +139,7 @@ pub fn scaling(r: Scaling, diag: &[f64], text: &mut [u8], at: usize) -> usize {
     row_of_doubles(b"scaling", diag, text, a)
 }
 
-fn held_number(held: Held) -> usize {
+pub fn held_number(held: Held) -> usize {
     match held {
         Held::Empty => 0,
         Held::Nothing => 1,

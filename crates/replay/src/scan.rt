@@ -112,7 +112,7 @@ pub struct Spans {
     pub large: bool,
 }
 
-fn both(a: bool, b: bool) -> bool {
+pub fn both(a: bool, b: bool) -> bool {
     if a { b } else { false }
 }
 

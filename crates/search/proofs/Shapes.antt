@@ -151,7 +151,7 @@ rotated-even (suc k) (r ∷ rs) (b₁ ∷ bs) (l₁ ∷ ls) q t b l =
     either true x y a b = a
     either false x y a b = b
 
-tri-length : (k : ℕ) (rows : List (List Float)) → Tri k rows → length rows ≡ k
+pub tri-length : (k : ℕ) (rows : List (List Float)) → Tri k rows → length rows ≡ k
 tri-length zero [] t = refl
 tri-length zero (r ∷ rs) t = absurd t
 tri-length (suc k) [] t = absurd t
@@ -192,13 +192,14 @@ tails-tall (suc n) [] t k h = absurd t
 tails-tall (suc n) (r ∷ rs) t zero h = length-drop 1 r ∙ omega (arith, t .0)
 tails-tall (suc n) (r ∷ rs) t (suc k) h = tails-tall n rs (t .1) k (le-of-suc-le-suc h) ∙ omega arith
 
+-- LAW: a diagonal eliminated against R leaves as many rows as R has columns, and a right side as long
+pub damping-fits : (ds : List Float) (us : List (List Float)) (q : List Float) → length ds ≡ length us → length q ≡ length us → Even (length us) (damping ds us q)
+unfolding damping
+damping-fits ds us q h l = eliminated-even (length us) ds (rowsFrom 0 us) q h (rows-even 0 us) l
+
 -- LAW: what a damped solve leaves is a room of the same shape, and its right side is as long as qt_b
 pub damping-even : (n : ℕ) (ds : List Float) (r : Room) → Shaped n r → length ds ≡ n → Even n (damping ds (r .upper) (r .qtb))
-unfolding damping
-damping-even n ds r z h =
-    let w = z .upper-wide in
-    let t : Tri n (rowsFrom 0 (r .upper)) = rw w at (rows-even 0 (r .upper)) in
-    eliminated-even n ds (rowsFrom 0 (r .upper)) (r .qtb) h t (z .qtb-long)
+damping-even n ds r z h = let w = z .upper-wide in rw w at (damping-fits ds (r .upper) (r .qtb) (h ∙ sym w) (z .qtb-long ∙ sym w))
 
 pub damped-shaped : (n : ℕ) (l : Rows) (r : Room) → Shaped n r → Even n l → Shaped n (dampedRoom l r)
 unfolding dampedRoom tails

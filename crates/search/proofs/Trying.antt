@@ -14,7 +14,7 @@ use Rattle.search.specs.Run.{Run, stopped, last, trial, within, falling,
 use Rattle.search.specs.Search.{Answer, answer, concluded}
 
 -- a trial before the tenth, by its five tests
-abbrev tested : Trial → Float → Run → Bool → Bool → Bool → Bool → Bool → Run
+abbrev pub tested : Trial → Float → Run → Bool → Bool → Bool → Bool → Bool → Run
 tested u fp rest a b c d e = elim a [
   | false ↦ run.refused trial-lambda
   | true ↦ elim b [

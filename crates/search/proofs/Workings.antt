@@ -7,6 +7,7 @@ use Prim.Native.Nat.{ℕ, _<_, _≤_, min}
 use native.Mathlib.Nat.{min-eq-left, min-eq-right, le-refl}
 use native.Mathlib.Omega.{arith}
 use lib.Dec.{ltb}
+use borrow.Author.Tests.{ne-eqb, le-ltb}
 use lib.ListN.{length, getD, take, drop, length-take, length-replicate, drop-of-length-le}
 use lib.Seq.{take-all, length-take-le}
 use lib.Ieee.{Float}
@@ -26,7 +27,7 @@ use Rattle.factor.specs.Calls as calls
 use Rattle.factor.specs.declared.state.State.{State}
 use Rattle.factor.specs.declared.state.Held.{Held}
 use Rattle.factor.specs.declared.state.Held.the-variants as held
-use Rattle.factor.proofs.Refusals.{numbered, call-worked, went-on, test-passed}
+use Rattle.factor.proofs.Refusals.{numbered, call-worked, went-on, test-passed, passed-iff}
 use Rattle.factor.proofs.Passed.{Ordered, solve-passed, passed-sized}
 use Rattle.factor.proofs.Measured.{earlier-passed}
 use Rattle.factor.proofs.Orders.{permutation-below}
@@ -41,6 +42,10 @@ use Rattle.search.proofs.Shapes.{scatter-fresh, zero-length, damped-len
 rested-twice : (r : Room) → rested (rested r) ≡ rested r
 unfolding leaving
 rested-twice r = rw (length-replicate (length (r .work)) plusZero)
+
+one-row : (n : ℕ) → 0 < n → n ≤ 16 → outside 1 n ≡ false
+unfolding outside
+one-row n h k = rw (ne-eqb n 0 (λ z. omega arith), le-ltb 16 n k)
 
 -- ---- a held solve's numbers
 filled-held : (st : State) → isEmpty (st .held) ≡ false → isNothing (st .held) ≡ false → (st .held ≡ held.Zero) ⊎ (st .held ≡ held.Damped)
@@ -220,6 +225,13 @@ module _ (st : State) (store : List Float) (order : List ℕ) (e : Ready st stor
   ready-held h i =
       let rest : List Test = (outside (st .m) (st .n), 2) ∷ (ltb (length store) (storeNeed (st .n)) || ltb (min (length order) (st .n)) (st .n), 3) ∷ orderTest st order ∷ [] in
       test-passed (isEmpty h, 5) rest i ∙ sym (test-passed (isEmpty (st .held), 5) rest (ordered .room .filled)) ∙ e
+
+  -- the room that a zero solve leaves does not hang on m
+  pub ready-one : Ready (record { m = 1; n = st .n; held = held.Zero }) store order
+  ready-one =
+      let h = passed-iff (solveTests st (length store) order (st .n)) refl .0 e in
+      let i = ordered .room .sizes in
+      passed-iff (solveTests (record { m = 1; n = st .n; held = held.Zero }) (length store) order (st .n)) refl .1 (refl, (one-row (st .n) (i .cols-some) (i .cols-few), h .1 .1))
 
   pub rested-loaded : {s′ : List Float} → s′ ≡ lay (rested room) → load (st .n) s′ ≡ rested room
   rested-loaded h = ap (λ (s : List Float). load (st .n) s) h ∙ load-lay (st .n) (rested room) (rested-shaped (st .n) room shaped)

@@ -31,7 +31,8 @@ pub struct SearchTold {
     pub state: State,
 }
 
-// Bounds and trials, after which a zero solve, whose numbers are not used, empties the store.
+// Bounds and trials, after which a zero solve, whose numbers are not used, empties the store. What it leaves does not hang on m, and the
+// fewer the rows, the less it works.
 fn conclude(
     st: State,
     store: &mut [f64],
@@ -51,7 +52,12 @@ fn conclude(
     ensures { λ _. ⌜ now (store .exit) ≡ lay (emptied (load (st .n) (now (store .entry)))) ⌝ }
 {
     let found = bounded(st, store, order, diag, radius, lambda, norm, p, v);
-    factor::least_squares::zero_working(st, store, order, v);
+    let one = State {
+        m: 1,
+        n: st.n,
+        held: Held::Zero,
+    };
+    factor::least_squares::zero_working(one, store, order, v);
     found
 }
 

@@ -87,10 +87,7 @@ fn sequence(items: &[Item], tally: &mut Tally, coverage: &mut Coverage) {
     tally.compared += 1;
     if let Some(last) = first_difference(items, tally, coverage) {
         tally.differ += 1;
-        let mut text = String::new();
-        items[..=last]
-            .iter()
-            .for_each(|item| script::write(item, &mut text));
+        let text = script::text(&items[..=last]);
         eprintln!("sequence, differing after its last line\n{text}");
     }
 }

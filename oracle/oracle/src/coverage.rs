@@ -46,6 +46,22 @@ const REFUSALS: [(&str, &[u8]); 11] = [
     ("is_non_singular", &[2, 3, 5]),
 ];
 
+/// The sizes of answered factorings and searches that are counted by themselves.
+const SIZES: [(&str, fn(usize, usize) -> bool); 6] = [
+    ("m < n", |m, n| m < n),
+    ("m < n, n = 16", |m, n| m < n && n == 16),
+    ("m = 128", |m, _| m == 128),
+    ("n = 16", |_, n| n == 16),
+    ("128 by 16", |m, n| (m, n) == (128, 16)),
+    ("m from 64, n from 8", |m, n| m >= 64 && n >= 8),
+];
+
+fn sizes_of(call: &str) -> impl Iterator<Item = String> {
+    SIZES
+        .iter()
+        .map(move |(size, _)| format!("{call} ok, {size}"))
+}
+
 const KINDS: [&str; 13] = [
     "m < n",
     "m = 128",
@@ -80,11 +96,24 @@ pub fn wanted_of_sheets() -> Vec<String> {
     wanted
 }
 
+fn answers_of(call: &str, numbers: &[u8]) -> Vec<String> {
+    let refused = numbers.iter().map(|k| format!("{call} refused {k}"));
+    std::iter::once(format!("{call} ok"))
+        .chain(refused)
+        .collect()
+}
+
+pub fn wanted_of_factorings() -> Vec<String> {
+    let (call, numbers) = REFUSALS[0];
+    let mut wanted = answers_of(call, numbers);
+    wanted.extend(sizes_of(call));
+    wanted
+}
+
 pub fn wanted_of_calls() -> Vec<String> {
     let mut wanted = vec!["held solve refused 5, nothing held".to_string()];
-    for (call, numbers) in REFUSALS {
-        wanted.push(format!("{call} ok"));
-        wanted.extend(numbers.iter().map(|k| format!("{call} refused {k}")));
+    for (call, numbers) in &REFUSALS[1..] {
+        wanted.extend(answers_of(call, numbers));
     }
     for mode in [
         "FirstScaled",
@@ -98,8 +127,8 @@ pub fn wanted_of_calls() -> Vec<String> {
         wanted.push(format!("held solve ok, {held}"));
         wanted.push(format!("held mul_qt_b ok, {held}"));
     }
-    wanted.push("factor ok, m < n".to_string());
-    wanted.push("factor ok, m = 128".to_string());
+    wanted.extend(wanted_of_factorings());
+    wanted.extend(sizes_of("search"));
     wanted.extend(CLASSES.iter().map(|class| class.to_string()));
     wanted
 }
@@ -117,11 +146,27 @@ impl Coverage {
             .collect()
     }
 
+    pub fn count(&self, label: &str) -> u64 {
+        self.counts.get(label).copied().unwrap_or(0)
+    }
+
     pub fn text(&self) -> String {
         self.counts
             .iter()
             .map(|(label, count)| format!("{count:10} {label}\n"))
             .collect()
+    }
+
+    /// The same, with what is wanted and was not met.
+    pub fn table(&self, wanted: &[String]) -> String {
+        let mut all = Coverage {
+            counts: self.counts.clone(),
+        };
+        for label in wanted {
+            all.counts.entry(label.clone()).or_insert(0);
+        }
+        let missing = self.missing(wanted).len();
+        all.text() + &format!("{} rows wanted, {missing} at zero\n", wanted.len())
     }
 
     fn kinds(&mut self, f: &Fields) {
@@ -207,9 +252,15 @@ impl Coverage {
                 self.add(&format!("{call} ok, {:?}", before.held))
             }
             (Item::Scale { mode, .. }, Ok(_)) => self.scaling(*mode, &reply.answer),
-            (Item::Factor { m, n, .. }, Ok(_)) if m < n => self.add("factor ok, m < n"),
-            (Item::Factor { m: 128, .. }, Ok(_)) => self.add("factor ok, m = 128"),
+            (Item::Factor { m, n, .. }, Ok(_)) => self.sizes(call, *m, *n),
+            (Item::Search { .. }, Ok(_)) => self.sizes(call, before.m, before.n),
             _ => {}
+        }
+    }
+
+    fn sizes(&mut self, call: &str, m: usize, n: usize) {
+        for (size, _) in SIZES.iter().filter(|(_, holds)| holds(m, n)) {
+            self.add(&format!("{call} ok, {size}"));
         }
     }
 

@@ -1,20 +1,24 @@
 //! The oracle's program: cases in, answers out; or both workings against each other.
 
+use oracle::cases::{self, Kind};
 use oracle::coverage::Coverage;
 use oracle::engines::{PLAIN, SHOWN, Working};
-use oracle::pool::Pool;
 use oracle::random::Random;
 use oracle::rooms::Rooms;
 use oracle::script::{self, Item};
-use oracle::{compare, make_calls, make_leaves, make_sheets, text, trace};
+use oracle::{compare, make_leaves, minpack, sample, speed, text, trace};
 use std::io::{self, BufRead, BufWriter, Write};
 use std::process::ExitCode;
 
 const USAGE: &str = "usage:
   oracle make sheets|calls|factorings COUNT SEED
+  oracle make sample
+  oracle cover sheets|calls|factorings COUNT SEED [--plain]
   oracle leaves COUNT SEED [--plain]
   oracle sheets|calls|trace [--plain]    cases on standard input
-  oracle compare COUNT SEED";
+  oracle compare COUNT SEED
+  oracle minpack ...                     for tools/compare-minpack
+  oracle speed M N CALLS MODE [--plain]  what the program `speed` prints";
 
 type Outcome = Result<(), String>;
 
@@ -47,27 +51,13 @@ fn traces(engine: &dyn Working) -> Outcome {
 
 fn calls(engine: &dyn Working) -> Outcome {
     let mut rooms = Rooms::none();
-    each_line(|line, say| {
-        let item = script::read(line)?;
-        if let Item::End = item {
-            return say(".\n");
-        }
-        let Some(reply) = rooms.play(engine, &item) else {
-            return Ok(());
-        };
-        let mut text = String::new();
-        rooms.write(&reply, &mut text);
-        say(&text)
-    })
+    each_line(|line, say| say(&rooms.printed(engine, &script::read(line)?)))
 }
 
 fn make_sheets(count: u64, seed: u64) -> Outcome {
-    let pool = Pool::hunt(seed);
-    let mut rng = Random::new(seed);
     let mut coverage = Coverage::default();
     let mut out = BufWriter::new(io::stdout().lock());
-    for _ in 0..count {
-        let bytes = make_sheets::sheet(&mut rng, &pool);
+    for bytes in cases::sheets(count, seed) {
         coverage.sheet(PLAIN, &bytes, &PLAIN.sheet(&bytes));
         say(&mut out, &(text::hex_of_bytes(&bytes) + "\n"))?;
     }
@@ -75,20 +65,23 @@ fn make_sheets(count: u64, seed: u64) -> Outcome {
     out.flush().map_err(|e| e.to_string())
 }
 
-fn make_scripts(count: u64, seed: u64, draw: fn(&mut Random, &Pool) -> Vec<Item>) -> Outcome {
-    let pool = Pool::hunt(seed);
-    let mut rng = Random::new(seed);
+fn make_scripts(scripts: impl Iterator<Item = Vec<Item>>) -> Outcome {
     let mut coverage = Coverage::default();
     let mut out = BufWriter::new(io::stdout().lock());
-    for _ in 0..count {
-        let items = draw(&mut rng, &pool);
+    for items in scripts {
         coverage.sequence(PLAIN, &items);
-        let mut text = String::new();
-        items.iter().for_each(|item| script::write(item, &mut text));
-        say(&mut out, &text)?;
+        say(&mut out, &script::text(&items))?;
     }
     eprint!("{}", coverage.text());
     out.flush().map_err(|e| e.to_string())
+}
+
+fn cover((coverage, wanted): (Coverage, Vec<String>)) -> Outcome {
+    print!("{}", coverage.table(&wanted));
+    match coverage.missing(&wanted)[..] {
+        [] => Ok(()),
+        _ => Err("not everything is covered".into()),
+    }
 }
 
 fn leaves(engine: &dyn Working, count: u64, seed: u64) -> Outcome {
@@ -130,21 +123,60 @@ fn compare(count: u64, seed: u64) -> Outcome {
     }
 }
 
+fn checksum(engine: &dyn Working, task: &speed::Task) -> Outcome {
+    if !(1..=128).contains(&task.m) || !(1..=16).contains(&task.n) || task.mode > 4 {
+        return Err("m is 1 to 128, n 1 to 16, the mode 0 to 4".into());
+    }
+    let mut text = String::new();
+    text::push_double(&mut text, speed::sum(engine, task));
+    println!("{text}");
+    Ok(())
+}
+
 fn number(word: &str) -> Result<u64, String> {
     word.parse().map_err(|_| format!("not a number: {word}"))
+}
+
+fn scripted(kind: &str) -> Result<Kind, String> {
+    match kind {
+        "calls" => Ok(Kind::Calls),
+        "factorings" => Ok(Kind::Factorings),
+        _ => Err(USAGE.to_string()),
+    }
 }
 
 fn command(words: &[&str], engine: &dyn Working) -> Outcome {
     match *words {
         ["make", "sheets", count, seed] => make_sheets(number(count)?, number(seed)?),
-        ["make", "calls", count, seed] => {
-            make_scripts(number(count)?, number(seed)?, make_calls::sequence)
-        }
-        ["make", "factorings", count, seed] => {
-            make_scripts(number(count)?, number(seed)?, make_calls::factoring_alone)
-        }
+        ["make", "sample"] => make_scripts(sample::cases().into_iter()),
+        ["make", kind, count, seed] => make_scripts(cases::scripts(
+            scripted(kind)?,
+            number(count)?,
+            number(seed)?,
+        )),
+        ["cover", "sheets", count, seed] => cover(cases::covered_by_sheets(
+            engine,
+            number(count)?,
+            number(seed)?,
+        )),
+        ["cover", kind, count, seed] => cover(cases::covered_by_scripts(
+            engine,
+            scripted(kind)?,
+            number(count)?,
+            number(seed)?,
+        )),
         ["leaves", count, seed] => leaves(engine, number(count)?, number(seed)?),
         ["compare", count, seed] => compare(number(count)?, number(seed)?),
+        ["minpack", ref rest @ ..] => minpack::command(rest),
+        ["speed", m, n, calls, mode] => checksum(
+            engine,
+            &speed::Task {
+                m: number(m)? as usize,
+                n: number(n)? as usize,
+                calls: number(calls)?,
+                mode: number(mode)?,
+            },
+        ),
         ["sheets"] => sheets(engine),
         ["calls"] => calls(engine),
         ["trace"] => traces(engine),

@@ -1,5 +1,6 @@
 //! Random call scripts: lent rooms, a factoring, then further calls, refused ones between.
 
+use crate::apart;
 use crate::pool::{Example, Pool};
 use crate::problem;
 use crate::random::Random;
@@ -187,11 +188,14 @@ fn call(rng: &mut Random, scene: &Scene) -> Item {
     }
 }
 
+/// More than one in twenty has at least 64 rows and 8 columns.
 fn example(rng: &mut Random, pool: &Pool) -> Example {
-    if rng.percent(25) {
-        return pool.draw(rng);
-    }
-    let problem = problem::any(rng);
+    let problem = match rng.below(100) {
+        0..25 => return pool.draw(rng),
+        25..35 => apart::large(rng),
+        35..37 => apart::swapped(rng),
+        _ => problem::any(rng),
+    };
     let diag = problem::scaling(rng, problem.n);
     let radius = problem::radius(rng, &problem, &diag);
     Example {

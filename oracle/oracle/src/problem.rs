@@ -45,7 +45,7 @@ impl Kind {
     }
 }
 
-fn up_to(rng: &mut Random, k: usize) -> usize {
+pub fn up_to(rng: &mut Random, k: usize) -> usize {
     1 + rng.below(k)
 }
 
@@ -72,11 +72,11 @@ pub fn sizes(rng: &mut Random) -> (usize, usize) {
     (m, n)
 }
 
-fn column(problem: &mut Problem, j: usize) -> &mut [f64] {
+pub fn column(problem: &mut Problem, j: usize) -> &mut [f64] {
     &mut problem.jacobian[j * problem.m..(j + 1) * problem.m]
 }
 
-/// A second column so near the first that 0.05*(r_diag/work)^2 comes out at epsmch itself or just beside it;
+/// A second column so near the first that 0.05*(r_diag/work)^2 comes out just beside epsmch (no double gives it itself);
 /// and a third as long as what is left of it, so that the order tells whether its norm was worked out anew.
 fn partial_norm_edge(rng: &mut Random, problem: &mut Problem) {
     let half = f64::EPSILON / 2.0;

@@ -204,6 +204,17 @@ impl Rooms {
         answer
     }
 
+    /// What the item prints: nothing where it is no call; `.` where it ends a case.
+    pub fn printed(&mut self, engine: &dyn Working, item: &Item) -> String {
+        let mut text = String::new();
+        if let Item::End = item {
+            text.push_str(".\n");
+        } else if let Some(reply) = self.play(engine, item) {
+            self.write(&reply, &mut text);
+        }
+        text
+    }
+
     pub fn write(&self, reply: &Reply, out: &mut String) {
         reply.write(out);
         out.push_str("state");

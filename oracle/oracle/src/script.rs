@@ -230,3 +230,9 @@ pub fn write(item: &Item, out: &mut String) {
     };
     out.push('\n');
 }
+
+pub fn text(items: &[Item]) -> String {
+    let mut out = String::new();
+    items.iter().for_each(|item| write(item, &mut out));
+    out
+}

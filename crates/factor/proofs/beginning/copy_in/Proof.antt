@@ -15,20 +15,20 @@ mul-p c = search needs
 add-e : tie.Need-add-e
 add-e c = search needs
 
+slice-aggregate-copy-long : tie.Need-slice-aggregate-copy-long
+slice-aggregate-copy-long c = simp length-take (omega arith)
+
+slice-relend-prefix-copy-long : tie.Need-slice-relend-prefix-copy-long
+slice-relend-prefix-copy-long c = search needs
+
+slice-aggregate-copy-long-2 : tie.Need-slice-aggregate-copy-long-2
+slice-aggregate-copy-long-2 c = simp length-take (omega arith)
+
+copy-long-requires : tie.Need-copy-long-requires
+copy-long-requires c κs = simp length-take (omega arith)
+
 slice-aggregate-copy-of : tie.Need-slice-aggregate-copy-of
 slice-aggregate-copy-of c = simp length-take (omega arith)
-
-slice-relend-prefix-copy-of : tie.Need-slice-relend-prefix-copy-of
-slice-relend-prefix-copy-of c = search needs
-
-slice-aggregate-copy-of-2 : tie.Need-slice-aggregate-copy-of-2
-slice-aggregate-copy-of-2 c = simp length-take (omega arith)
-
-copy-of-requires : tie.Need-copy-of-requires
-copy-of-requires c κs = simp length-take (omega arith)
-
-slice-aggregate-copy-of-3 : tie.Need-slice-aggregate-copy-of-3
-slice-aggregate-copy-of-3 c = simp length-take (omega arith)
 
 mul-copy-of : tie.Need-mul-copy-of
 mul-copy-of c = search needs
@@ -42,10 +42,10 @@ part-copy-of-start c = search needs
 part-copy-of-end : tie.Need-part-copy-of-end
 part-copy-of-end c = search needs
 
-copy-of-requires-2 : tie.Need-copy-of-requires-2
-copy-of-requires-2 c κs =
+copy-of-requires : tie.Need-copy-of-requires
+copy-of-requires c κs =
     let g = c .before .before .before .before .before .before .before .before .before .before .args in
-    let x = c .before .before .before .before .copy-of in
+    let x = c .before .before .before .before .copy-long in
     let p = g .m * g .n in
     let y = x .ensures in
     let l = second-long p (p + g .m - p) (g .bench .now) (x .last .1 .0) (ap length y ∙ length-take-le p (g .jacobian .now) (omega arith)) (omega arith) in
@@ -57,9 +57,9 @@ same-length c = search needs
 returns : tie.Need-returns
 returns c =
     let g = c .before .before .before .before .before .before .before .before .before .before .before .before .before .args in
-    let x = c .before .before .before .before .before .before .before .copy-of in
+    let x = c .before .before .before .before .before .before .before .copy-long in
     let p = g .m * g .n in
-    two-parts p (p + g .m - p) (take p (g .jacobian .now)) (take (g .m) (g .residuals .now)) (g .bench .now) (x .last .1 .0) _ (length-take-le p (g .jacobian .now) (omega arith)) (omega arith) (x .ensures) (c .before .before .copy-of2 .ensures)
+    two-parts p (p + g .m - p) (take p (g .jacobian .now)) (take (g .m) (g .residuals .now)) (g .bench .now) (x .last .1 .0) _ (length-take-le p (g .jacobian .now) (omega arith)) (omega arith) (x .ensures) (c .before .before .copy-of .ensures)
 
 pub copy-in-spec : {M : Type 1} → statement M
 copy-in-spec =
@@ -67,15 +67,15 @@ copy-in-spec =
     (tie.spec
     mul-p
     add-e
+    slice-aggregate-copy-long
+    slice-relend-prefix-copy-long
+    slice-aggregate-copy-long-2
+    copy-long-requires
     slice-aggregate-copy-of
-    slice-relend-prefix-copy-of
-    slice-aggregate-copy-of-2
-    copy-of-requires
-    slice-aggregate-copy-of-3
     mul-copy-of
     sub-copy-of
     part-copy-of-start
     part-copy-of-end
-    copy-of-requires-2
+    copy-of-requires
     same-length
     returns)

@@ -50,8 +50,8 @@ lay-store-requires c κs =
     let l = norms-size (g .n) (g .store .now) (x .last .1 .1 .1 .1 .0) (p .1 .1 .1 .1 .0) lv (a + g .n - a) (omega arith) in
     (record { rows = p .0 .rows; across = p .0 .across; whole = x .kept .1 .1 .1 .1 .1 .1 .1 .1 .0 ∙ p .0 .whole }, (x .kept .1 .1 .1 .1 .1 .0 ∙ p .1 .1 .1 .1 .1 .1 .0, rw l (p .1 .1 .1 .1 .0)))
 
-fill-requires : tie.Need-fill-requires
-fill-requires c κs = search needs
+clear-long-requires : tie.Need-clear-long-requires
+clear-long-requires c κs = search needs
 
 same-length : tie.Need-same-length
 same-length c = search needs
@@ -91,7 +91,7 @@ returns c =
           (norms-read (g .n) s v h lv (a + g .n - a) (omega arith) ∙ x .ensures .0) (norms-past (g .n) s v h lv (a + g .n - a) (omega arith)) (y .ensures .0),
       (
         ap (λ (r : Reduction). r .order) (x .ensures .1),
-        (c .before .before .fill .ensures ∙ ap zeros (x .kept .1 .1 .1 .1 .1 .1 .1 .1 .0), room-long (g .m) (g .n) f d w d b o (x .ensures .1) refl (y .ensures .1)),
+        (c .before .before .clear-long .ensures ∙ ap zeros (x .kept .1 .1 .1 .1 .1 .1 .1 .1 .0), room-long (g .m) (g .n) f d w d b o (x .ensures .1) refl (y .ensures .1)),
       ),
     )
 
@@ -108,7 +108,7 @@ factor-with-spec =
     part-work-out-end
     work-out-requires
     lay-store-requires
-    fill-requires
+    clear-long-requires
     same-length
     same-length-2
     same-length-3

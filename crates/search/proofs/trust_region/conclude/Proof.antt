@@ -2,7 +2,8 @@
 use mathlib.Core.Path.{_≡_, refl, sym, ap, _∙_}
 use borrow.Author.Needs.{needs}
 use Rattle.factor.specs.Room.{lay}
-use Rattle.search.proofs.Workings.{ready-after, zero-store}
+use Rattle.factor.specs.declared.state.Held.the-variants as held
+use Rattle.search.proofs.Workings.{ready-after, ready-one, zero-store}
 use Rattle.search.proofs.trust_region.conclude.Statement.{statement}
 use Rattle.search.proofs.trust_region.conclude.Tie as tie
 
@@ -27,7 +28,7 @@ returns c =
     let k = c .before .before .before .before .before .before .before .before .before .before .before .before .before .bounded in
     let s = k .last .1 .0 in
     let ready = ready-after (g .args .st) (g .args .store .now) (g .args .order .now) (g .pre .0) s (k .kept .1 .0) in
-    (k .ensures .0, zero-store (g .args .st) s (g .args .order .now) ready _ (k .kept .1 .1 .1 .1 .1 .1 .1 .1 .0 ∙ g .pre .1 .1 .0 .2) (c .before .before .before .before .zero-working .ensures) ∙ ap lay (k .ensures .1))
+    (k .ensures .0, zero-store (record { m = 1; n = g .args .st .n; held = held.Zero }) s (g .args .order .now) (ready-one (g .args .st) s (g .args .order .now) ready) _ (k .kept .1 .1 .1 .1 .1 .1 .1 .1 .0 ∙ g .pre .1 .1 .0 .2) (c .before .before .before .before .zero-working .ensures) ∙ ap lay (k .ensures .1))
 
 pub conclude-spec : {M : Type 1} → statement M
 conclude-spec =

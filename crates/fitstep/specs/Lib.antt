@@ -1,0 +1,2 @@
+-- What the contracts of `fitstep` cite.
+pub mod Part

@@ -1,0 +1,141 @@
+-- An answered call of the search, read for LMPAR: its tests were passed, it wrote its step, and the step has n entries. Assumes nothing.
+use mathlib.Core.Path.{_≡_, refl, sym, ap, _∙_}
+use mathlib.Core.Bool.{Bool, true, false}
+use mathlib.Core.List.{List}
+use Prim.Native.Nat.{ℕ, zero, suc}
+use lib.Dec.{eqb}
+use lib.ListN.{length, take, drop, length-replicate}
+use lib.Seq.{take-at, length-take-le}
+use lib.Ieee.{Float, binary64, sub, le}
+use borrow.Author.Tests.{eqb-true, not-false}
+use Rattle.leaves.specs.Reply.{Reply, answered, refused}
+use Rattle.leaves.specs.Number.{plusZero, dwarf, isFinite}
+use Rattle.leaves.proofs.Replies.{refused-answered, answered-same}
+use Rattle.factor.specs.Room.{Room, Shaped, diagonal, load, lay, emptied, zeros}
+use Rattle.factor.specs.Tests.{Test, firstOf}
+use Rattle.factor.specs.Solve.{scatter, gather, zeroSolved}
+use Rattle.factor.specs.Eliminate.{damping, dampedSolved, heads, tails}
+use Rattle.factor.specs.Calls.{Ended, ended, written}
+use Rattle.factor.specs.declared.state.State.{State}
+use Rattle.factor.proofs.Refusals.{passed-iff}
+use Rattle.factor.proofs.Solves.{gather-length}
+use Rattle.search.specs.Problem.{Problem, placed, undampedStep, scaledNorm}
+use Rattle.search.specs.Bounds.{band}
+use Rattle.search.specs.Search.{Answer, answerOf, problemOf, searchTests, searched, searchCall}
+use Rattle.search.specs.Qrsolv.{Solved, qrsolv}
+use Rattle.search.specs.Lmpar.{Given, Output, Before, Tried, evaluated, accepted, improved, iterations, lmpar}
+use Rattle.search.specs.declared.LMParameter.{LMParameter}
+use Rattle.search.proofs.Shapes.{scatter-length, zero-length, damped-length, damping-fits}
+use Rattle.search.proofs.Workings.{shaped, order-long}
+use Rattle.search.proofs.Calling.{ready}
+use Rattle.search.proofs.AgainstQrsolv.{qrsolv-is}
+use Rattle.search.proofs.LmparVectors.{Enough}
+use Rattle.search.proofs.LmparTrials.{Formed, givenOf, beforeOf}
+use Rattle.search.proofs.LmparStart.{first, tested-is, answer-is-lmpar}
+use Rattle.search.proofs.LmparStart as start
+
+-- ---- x has n entries
+placed-length : (os : List ℕ) (xs : List Float) → length (scatter os xs (zeros (length xs))) ≡ length xs
+placed-length os xs = scatter-length os xs (zeros (length xs)) ∙ length-replicate (length xs) plusZero
+
+module _ (p : Problem) (w : Formed p) where
+  abbrev n : ℕ
+  n = length (p .upper)
+
+  abbrev a : Given
+  a = givenOf p
+
+  qrsolv-long : (wa1 : List Float) → length (qrsolv n (p .upper) (p .order) wa1 (p .qtb) .x) ≡ n
+  qrsolv-long wa1 =
+      let rows = damping (gather (p .order) wa1) (p .upper) (p .qtb) in
+      ap (λ (x : Solved). length (x .x)) (qrsolv-is (p .upper) (p .order) wa1 (p .qtb) (w .pivots) (w .rhs))
+      ∙ placed-length (p .order) (dampedSolved (heads (rows .0)) (tails (rows .0)) (rows .1))
+      ∙ damped-length (heads (rows .0)) (tails (rows .0)) (rows .1)
+      ∙ damping-fits (gather (p .order) wa1) (p .upper) (p .qtb) (gather-length (p .order) wa1 ∙ w .pivots) (w .rhs) .1
+
+  evaluated-long : (b : Before) → length (evaluated dwarf a b .solved .x) ≡ n
+  unfolding evaluated
+  evaluated-long b = qrsolv-long _
+
+  iterations-long : (k : ℕ) (b : Before) → length (iterations dwarf a k b .x) ≡ n
+  unfolding iterations
+  iterations-long zero b = evaluated-long b
+  iterations-long (suc k) b = let t = evaluated dwarf a b in by (accepted a b t) t (evaluated-long b) (iterations-long k (improved a b t))
+    where
+      by : (z : Bool) (t : Tried) → length (t .solved .x) ≡ n → length (iterations dwarf a k (improved a b t) .x) ≡ n
+          → length ((elim z as (λ _. Output) [ true ↦ record { x = t .solved .x; par = t .par; qrsolvs = suc (b .iter) } | false ↦ iterations dwarf a k (improved a b t) ]) .x) ≡ n
+      by true t h r = h
+      by false t h r = r
+
+  undamped-long : length (undampedStep p) ≡ n
+  unfolding undampedStep placed
+  undamped-long = placed-length (p .order) (zeroSolved (p .m) (p .upper) (p .qtb)) ∙ zero-length (p .m) (p .upper) (p .qtb) (sym (w .rhs)) ∙ w .rhs
+
+  x-long : (initial : Float) → Enough (p .m) (diagonal (p .upper)) → length (lmpar dwarf a initial .x) ≡ n
+  x-long initial wide =
+      ap (λ (x : Output). length (x .x)) (tested-is p initial wide w)
+      ∙ by (le (sub binary64 (scaledNorm p (undampedStep p)) (p .radius)) (band (p .radius)))
+    where
+      by : (z : Bool) → length (start.ended p initial (undampedStep p) (beforeOf 0 (first p initial)) z .x) ≡ n
+      by true = undamped-long
+      by false = iterations-long 9 (beforeOf 0 (first p initial))
+
+-- ---- an answer comes from the working alone, and writes its step
+module _ (st : State) (s store out : List Float) (c : ℕ) where
+  abbrev outcome : Reply Answer → Bool → Ended LMParameter
+  outcome x z = elim z [ true ↦ searched st s out x | false ↦ ended (refused c) st store out ]
+
+  abbrev Worked : Reply Answer → LMParameter → List Float → Type 0
+  Worked x a after = (c ≡ 0) × ((step : List Float) × ((x ≡ answered (a, step)) × (after ≡ written step out)))
+
+  by-test : (x : Reply Answer) (a : LMParameter) (z : Bool) → eqb c 0 ≡ z → outcome x z .reply ≡ answered a → Worked x a (outcome x z .out)
+  by-test (answered b) a true e h = (eqb-true c 0 e, (b .1, (ap (λ (y : LMParameter). answered (y, b .1)) (answered-same h), refl)))
+  by-test (refused k) a true e h = refused-answered h
+  by-test x a false e h = refused-answered h
+
+module _ (st : State) (order : List ℕ) (diag : List Float) (radius lambda : Float) (store out : List Float) where
+  abbrev call : Ended LMParameter
+  call = searchCall st order diag radius lambda store out
+
+  abbrev room : Room
+  room = load (st .n) store
+
+  abbrev asked : Problem
+  asked = problemOf st order diag radius (load (st .n) store)
+
+  abbrev tests : List Test
+  tests = searchTests st (length store) order diag radius lambda (length out)
+
+  abbrev given : Given
+  given = record { n = st .n; r = room .upper; ipvt = take (st .n) order; diag = take (st .n) diag; qtb = room .qtb; delta = radius }
+
+  module _ (a : LMParameter) (h : call .reply ≡ answered a) where
+    worked : Worked st (lay (emptied room)) store out (firstOf tests) (answerOf asked lambda) a (call .out)
+    unfolding searchCall
+    worked = by-test st (lay (emptied room)) store out (firstOf tests) (answerOf asked lambda) a (eqb (firstOf tests) 0) refl h
+
+    -- the tests of the radius
+    numbers : (isFinite radius ≡ true) × (le radius plusZero ≡ false)
+    numbers =
+        let k = passed-iff tests refl .0 (worked .0) in
+        (not-false (isFinite radius) (k .1 .1 .1 .1 .1 .0), k .1 .1 .1 .1 .1 .1 .1 .0)
+
+    pub fits : Shaped (st .n) room
+    fits = shaped st store order (ready st store order diag radius lambda out refl (worked .0))
+
+    formed : Formed asked
+    formed = record {
+      pivots = length-take-le (st .n) order (order-long st store order (ready st store order diag radius lambda out refl (worked .0))) ∙ sym (fits .upper-wide);
+      rhs = fits .qtb-long ∙ sym (fits .upper-wide);
+    }
+
+    given-is : given ≡ givenOf asked
+    given-is = rw (fits .upper-wide)
+
+    pub answers-as-lmpar : Enough (st .m) (diagonal (room .upper)) → lmpar dwarf given lambda ≡ record { x = take (st .n) (call .out); par = a .lambda; qrsolvs = a .trials }
+    answers-as-lmpar wide =
+        let step = worked .1 .0 in
+        let same = answer-is-lmpar asked lambda wide formed a step (numbers .0) (numbers .1) (worked .1 .1 .0) in
+        let long : length step ≡ st .n = ap (λ (x : Output). length (x .x)) (sym same) ∙ x-long asked formed lambda wide ∙ fits .upper-wide in
+        let e : take (st .n) (call .out) ≡ step = ap (take (st .n)) (worked .1 .1 .1) ∙ take-at step (drop (length step) out) (st .n) long in
+        ap (λ (x : Given). lmpar dwarf x lambda) given-is ∙ same ∙ ap (λ (x : List Float). record { x = x; par = a .lambda; qrsolvs = a .trials }) (sym e)

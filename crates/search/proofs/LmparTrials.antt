@@ -1,0 +1,175 @@
+-- An iteration of LMPAR is a trial of the search: the same par, x, dxnorm, fp and correction, and past the tests the same bounds. Assumes nothing.
+use mathlib.Core.Path.{_≡_, refl, sym, ap, _∙_}
+use mathlib.Core.Bool.{Bool, true, false, cond, not, _||_}
+use mathlib.Core.List.{map}
+use Prim.Native.Nat.{ℕ, zero, suc}
+use lib.ListN.{length}
+use lib.Ieee.{Float, binary64, add, sub, mul, lt, eq, isNan}
+use Rattle.leaves.specs.Reply.{answered, refused}
+use Rattle.leaves.specs.Number.{plusZero, dwarf, maxOf, minOf, isFinite, isNegative}
+use Rattle.leaves.specs.Norm.{norm}
+use Rattle.leaves.specs.Root.{rootS}
+use Rattle.leaves.specs.Vector.{scaleAll}
+use Rattle.leaves.proofs.Replies.{refused-answered, answered-same}
+use Rattle.factor.specs.Eliminate.{heads, tails}
+use Rattle.search.specs.Problem.{Problem, placed, dampedRows, dampedStep, scaledStep, scaledNorm, direction, dampedSlope, newton}
+use Rattle.search.specs.Bounds.{tenth, thousandth, band, raised}
+use Rattle.search.specs.Run as run
+use Rattle.search.specs.Run.{Run, stopped, last, ten, trial-lambda, trial-norm, Next, Trial, next, trialOf, isWithin, isFalling, trialsFrom}
+use Rattle.search.specs.Search.{Answer, answer, concluded}
+use Rattle.search.specs.Qrsolv.{Solved, qrsolv}
+use Rattle.search.specs.Lmpar.{Given, Output, Before, Tried, p1, p001, scaled, newtonStep, evaluated, accepted, parcOf, improved, iterations}
+use Rattle.search.proofs.Numbers.{next-falls, next-rises}
+use Rattle.search.proofs.Trying.{tested}
+use Rattle.search.proofs.Commuting.{times-comm}
+use Rattle.search.proofs.LmparVectors.{scaled-is, root-scaled, forwardS-is, side-is}
+use Rattle.search.proofs.AgainstQrsolv.{qrsolv-is}
+use Rattle.search.proofs.LmparSigns.{Bounded, difference-number, below-zero, above-zero, apart-not-zero}
+
+-- ---- a search's problem, what a trial starts from, and its answer, in LMPAR's names
+abbrev pub givenOf : Problem → Given
+givenOf p = record { n = length (p .upper); r = p .upper; ipvt = p .order; diag = p .diag; qtb = p .qtb; delta = p .radius }
+
+abbrev pub beforeOf : ℕ → Next → Before
+beforeOf iter s = record { iter = iter; par = s .lambda; parl = s .lower; paru = s .upper; fp = s .fp }
+
+abbrev pub outputOf : Answer → Output
+outputOf a = record { x = a .1; par = a .0 .lambda; qrsolvs = a .0 .trials }
+
+-- as many places of the order list and of qt_b as R has columns
+pub record Formed (p : Problem) : Type 0 where
+  pub pivots : length (p .order) ≡ length (p .upper)
+  pub rhs : length (p .qtb) ≡ length (p .upper)
+
+abbrev solvedOf : Problem → Float → Solved
+solvedOf p lambda = let l = dampedRows p lambda in record { x = dampedStep p lambda; sdiag = heads (l .0); s = tails (l .0) }
+
+abbrev triedOf : Problem → Float → Tried
+triedOf p lambda =
+    let step = dampedStep p lambda in
+    let dxnorm = scaledNorm p step in
+    record { par = lambda; solved = solvedOf p lambda; wa2 = scaledStep p step; dxnorm = dxnorm; fp = sub binary64 dxnorm (p .radius) }
+
+-- ---- to the test
+pub tenth-of : (radius : Float) → mul binary64 p1 radius ≡ band radius
+unfolding p1 band tenth
+tenth-of radius = times-comm binary64 _ radius
+
+par-is : (par paru : Float) → cond (eq par plusZero) (maxOf dwarf (mul binary64 p001 paru)) par ≡ raised par paru
+unfolding p001 raised thousandth
+par-is par paru = ap (λ (x : Float). cond (eq par plusZero) (maxOf dwarf x) par) (times-comm binary64 _ paru)
+
+-- for a par that is raised already
+abbrev at : Given → Float → Tried
+at a par =
+    let solved = qrsolv (a .n) (a .r) (a .ipvt) (map (λ d. mul binary64 (rootS par) d) (a .diag)) (a .qtb) in
+    let wa2 = scaled (a .diag) (solved .x) in
+    record { par = par; solved = solved; wa2 = wa2; dxnorm = norm wa2; fp = sub binary64 (norm wa2) (a .delta) }
+
+module _ (p : Problem) (w : Formed p) where
+  solved-is : (lambda : Float) → qrsolv (length (p .upper)) (p .upper) (p .order) (map (λ d. mul binary64 (rootS lambda) d) (p .diag)) (p .qtb) ≡ solvedOf p lambda
+  unfolding placed dampedStep dampedRows
+  solved-is lambda = rw (root-scaled (rootS lambda) (p .diag)) (qrsolv-is (p .upper) (p .order) (scaleAll (rootS lambda) (p .diag)) (p .qtb) (w .pivots) (w .rhs))
+
+  at-is : (lambda : Float) → at (givenOf p) lambda ≡ triedOf p lambda
+  at-is lambda = rw (solved-is lambda, scaled-is (p .diag) (dampedStep p lambda))
+
+  evaluated-is : (t : ℕ) (s : Next) → evaluated dwarf (givenOf p) (beforeOf t s) ≡ triedOf p (trialOf p s .lambda)
+  unfolding evaluated trialOf
+  evaluated-is t s = ap (at (givenOf p)) (par-is (s .lambda) (s .upper)) ∙ at-is (raised (s .lambda) (s .upper))
+
+-- ---- the tests
+module _ (p : Problem) (t : ℕ) (s : Next) (z : eq (s .fp) plusZero ≡ false) where
+  accepted-is : (y : Tried) → accepted (givenOf p) (beforeOf t s) y ≡ (isWithin p (y .fp) || isFalling s (y .fp))
+  unfolding accepted isWithin isFalling
+  accepted-is y = rw (tenth-of (p .radius), below-zero (s .fp) z)
+
+-- ---- the correction, and what the next iteration starts from
+correction-is : (p : Problem) (lambda : Float) → parcOf (givenOf p) (triedOf p lambda) ≡ newton (triedOf p lambda .fp) (p .radius) (dampedSlope p lambda (dampedStep p lambda))
+unfolding parcOf newtonStep newton dampedSlope direction
+correction-is p lambda =
+    let l = dampedRows p lambda in
+    let v = scaledStep p (dampedStep p lambda) in
+    rw (side-is (givenOf p) v (norm v), forwardS-is (heads (l .0)) (tails (l .0)) (direction p (dampedStep p lambda)))
+
+-- by the signs of fp, where LMPAR compares
+abbrev improvedBy : ℕ → Trial → Float → Float → Before
+improvedBy iter u fp c =
+    let parl = cond (lt plusZero fp) (maxOf (u .lower) (u .lambda)) (u .lower) in
+    let paru = cond (lt fp plusZero) (minOf (u .upper) (u .lambda)) (u .upper) in
+    record { iter = suc iter; par = maxOf parl (add binary64 (u .lambda) c); parl = parl; paru = paru; fp = fp }
+
+improved-by : (iter : ℕ) (u : Trial) (fp c : Float) → isNan fp ≡ false → eq fp plusZero ≡ false → improvedBy iter u fp c ≡ beforeOf (suc iter) (next u fp c)
+improved-by iter u fp c n z = by (isNegative fp) refl
+  where
+    by : (b : Bool) → isNegative fp ≡ b → improvedBy iter u fp c ≡ beforeOf (suc iter) (next u fp c)
+    by true e = rw (above-zero fp n z ∙ ap not e, below-zero fp z ∙ e) (ap (beforeOf (suc iter)) (next-falls u fp c e))
+    by false e = rw (above-zero fp n z ∙ ap not e, below-zero fp z ∙ e) (ap (beforeOf (suc iter)) (next-rises u fp c refl e))
+
+next-fp : (u : Trial) (fp c : Float) → next u fp c .fp ≡ fp
+next-fp u fp c = by (isNegative fp) refl
+  where
+    by : (b : Bool) → isNegative fp ≡ b → next u fp c .fp ≡ fp
+    by true e = ap (λ (s : Next). s .fp) (sym (next-falls u fp c e))
+    by false e = ap (λ (s : Next). s .fp) (sym (next-rises u fp c refl e))
+
+-- ---- trial ten, and a trial before it, by their tests
+module _ (t : ℕ) (a₀ : Answer) (u : Trial) where
+  abbrev told : Answer
+  told = answer (u .lambda) (u .norm) (suc t) (u .step)
+
+  at-ten : {r : Answer} (x y : Bool) → concluded t a₀ (elim x [ true ↦ last u (elim y [ true ↦ stopped ten | false ↦ run.refused trial-norm ]) | false ↦ run.refused trial-lambda ]) ≡ answered r → outputOf told ≡ outputOf r
+  unfolding concluded
+  at-ten true true h = ap outputOf (answered-same h)
+  at-ten true false h = refused-answered h
+  at-ten false y h = refused-answered h
+
+  -- finite norm, not within: there the rest of the two runs has to agree
+  before-ten : {r : Answer} (fp : Float) (rest : Run) (onward : Output) (v w x y z : Bool) → concluded t a₀ (tested u fp rest v w x y z) ≡ answered r
+      → (w ≡ true → x ≡ false → concluded (suc t) told rest ≡ answered r → onward ≡ outputOf r) → elim (x || y) [ true ↦ outputOf told | false ↦ onward ] ≡ outputOf r
+  unfolding concluded
+  before-ten fp rest onward false w x y z h on = refused-answered h
+  before-ten fp rest onward true false x y z h on = refused-answered h
+  before-ten fp rest onward true true true y z h on = ap outputOf (answered-same h)
+  before-ten fp rest onward true true false true z h on = ap outputOf (answered-same h)
+  before-ten fp rest onward true true false false false h on = refused-answered h
+  before-ten fp rest onward true true false false true h on = on refl refl h
+
+-- ---- the trials
+module _ (p : Problem) (w : Formed p) (f : isFinite (p .radius) ≡ true) (b : Bounded (band (p .radius))) where
+  abbrev fpOf : Float → Float
+  fpOf lambda = sub binary64 (scaledNorm p (dampedStep p lambda)) (p .radius)
+
+  improved-is : (t : ℕ) (s : Next) → isFinite (trialOf p s .norm) ≡ true → isWithin p (fpOf (trialOf p s .lambda)) ≡ false
+      → improved (givenOf p) (beforeOf t s) (triedOf p (trialOf p s .lambda))
+      ≡ beforeOf (suc t) (next (trialOf p s) (fpOf (trialOf p s .lambda)) (newton (fpOf (trialOf p s .lambda)) (p .radius) (dampedSlope p (trialOf p s .lambda) (trialOf p s .step))))
+  unfolding improved trialOf isWithin
+  improved-is t s n o =
+      let u = trialOf p s in
+      let fp = fpOf (u .lambda) in
+      rw (correction-is p (u .lambda))
+      (improved-by t u fp (newton fp (p .radius) (dampedSlope p (u .lambda) (u .step))) (difference-number binary64 (u .norm) (p .radius) n f) (apart-not-zero fp (p .radius) b o))
+
+  -- an iteration that was evaluated, by its test
+  abbrev ended : ℕ → ℕ → Next → Tried → Bool → Output
+  ended k t s y z = elim z [
+    | true ↦ record { x = y .solved .x; par = y .par; qrsolvs = suc t }
+    | false ↦ iterations dwarf (givenOf p) k (improved (givenOf p) (beforeOf t s) y)
+  ]
+
+  pub trials-agree : (k t : ℕ) (s : Next) (a₀ : Answer) {r : Answer} → eq (s .fp) plusZero ≡ false → concluded t a₀ (trialsFrom p k s) ≡ answered r
+      → iterations dwarf (givenOf p) k (beforeOf t s) ≡ outputOf r
+  unfolding iterations trialsFrom trialOf isWithin
+  trials-agree zero t s a₀ z h = rw (evaluated-is p w t s) (at-ten t a₀ (trialOf p s) (isFinite (trialOf p s .lambda)) (isFinite (trialOf p s .norm)) h)
+  trials-agree (suc k) t s a₀ z h =
+      let u = trialOf p s in
+      let fp = fpOf (u .lambda) in
+      let c = newton fp (p .radius) (dampedSlope p (u .lambda) (u .step)) in
+      let y = triedOf p (u .lambda) in
+      ap (λ (x : Tried). ended k t s x (accepted (givenOf p) (beforeOf t s) x)) (evaluated-is p w t s)
+      ∙ ap (ended k t s y) (accepted-is p t s z y)
+      ∙ before-ten t a₀ u fp (trialsFrom p k (next u fp c)) (iterations dwarf (givenOf p) k (improved (givenOf p) (beforeOf t s) y))
+      (isFinite (u .lambda)) (isFinite (u .norm)) (isWithin p fp) (isFalling s fp) (isFinite c) h
+      (λ n o g.
+      ap (iterations dwarf (givenOf p) k) (improved-is t s n o)
+      ∙ trials-agree k (suc t) (next u fp c) (told t a₀ u) (ap (λ (x : Float). eq x plusZero) (next-fp u fp c) ∙ apart-not-zero fp (p .radius) b o) g)

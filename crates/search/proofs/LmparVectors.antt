@@ -1,0 +1,168 @@
+-- LMPAR's vectors are the search's: its solves subtract where the leaf rules add the negated product, and its products have their factors the
+-- other way round. For vectors of any lengths. Assumes nothing.
+use mathlib.Core.Path.{_≡_, refl, sym, ap, _∙_}
+use mathlib.Core.Bool.{Bool, true, false, cond, not, _&&_, true≢false}
+use mathlib.Core.Logic.{_⊎_, ⊎-elim}
+use mathlib.Core.List.{List, [], _∷_, _++_, map}
+use Prim.Native.Nat.{ℕ, zero, suc, _+_, _<_, _≤_, compare·suc-suc}
+use native.Mathlib.Omega.{arith}
+use lib.Dec.{leb, ltb}
+use lib.ListN.{length, take, drop, getD}
+use lib.Seq.{take-all}
+use lib.Ieee.{Float, nan, inf, fin, binary64, add, sub, mul, div, neg, eq}
+use borrow.Author.Tests.{eq-eqb, ne-eqb, lt-ltb, le-leb}
+use Rattle.leaves.specs.Number.{plusZero}
+use Rattle.leaves.specs.Vector.{dotFrom, axpyAll, scaleAll}
+use Rattle.leaves.specs.Triangle.{solvePlace, solveDown}
+use Rattle.leaves.specs.Product.{productAll}
+use Rattle.factor.specs.Solve.{rank, noZero, gather}
+use Rattle.factor.specs.Held.{forwardUpper, forwardLower, mulUpper}
+use Rattle.search.specs.Bounds.{quotients}
+use Rattle.search.specs.Qrsolv.{nsingFrom}
+use Rattle.search.specs.Lmpar.{Given, lessColumn, backward, scaled, newtonSide, forward, forwardS, gradient}
+use Rattle.search.proofs.Commuting.{times-comm, less-is}
+
+-- ---- products and sums of them
+pub scaled-is : (ds xs : List Float) → scaled ds xs ≡ productAll xs ds
+unfolding scaled productAll
+scaled-is [] [] = refl
+scaled-is [] (x ∷ xs) = refl
+scaled-is (d ∷ ds) [] = refl
+scaled-is (d ∷ ds) (x ∷ xs) = rw (times-comm binary64 d x, scaled-is ds xs)
+
+pub root-scaled : (t : Float) (ds : List Float) → map (λ d. mul binary64 t d) ds ≡ scaleAll t ds
+unfolding scaleAll
+root-scaled t [] = refl
+root-scaled t (d ∷ ds) = ap (λ (l : List Float). mul binary64 t d ∷ l) (root-scaled t ds)
+
+dot-comm : (s : Float) (xs ys : List Float) → dotFrom s xs ys ≡ dotFrom s ys xs
+unfolding dotFrom
+dot-comm s [] [] = refl
+dot-comm s [] (y ∷ ys) = refl
+dot-comm s (x ∷ xs) [] = refl
+dot-comm s (x ∷ xs) (y ∷ ys) = rw (times-comm binary64 x y) (dot-comm (add binary64 s (mul binary64 y x)) xs ys)
+
+-- ---- the triangular solves
+less-column : (t : Float) (rs ws : List Float) → lessColumn t rs ws ≡ axpyAll (neg t) rs ws
+unfolding lessColumn axpyAll
+less-column t [] ws = refl
+less-column t (r ∷ rs) [] = refl
+less-column t (r ∷ rs) (w ∷ ws) = rw (less-is binary64 w r t, less-column t rs ws)
+
+pub backward-is : (r : List (List Float)) (j : ℕ) (ws : List Float) → backward r j ws ≡ solveDown r j ws
+unfolding backward solveDown solvePlace
+backward-is r zero ws = refl
+backward-is r (suc j) ws =
+    let c = getD r j [] in
+    let t = div binary64 (getD ws j nan) (getD c j nan) in
+    ap (λ (x : List Float). backward r j (x ++ (t ∷ drop (suc j) ws))) (less-column t (take j c) (take j ws))
+    ∙ backward-is r j (axpyAll (neg t) (take j c) (take j ws) ++ (t ∷ drop (suc j) ws))
+
+pub forward-is : (ws : List Float) (cs : List (List Float)) (bs : List Float) → forward ws cs bs ≡ forwardUpper ws cs bs
+unfolding forward forwardUpper
+forward-is ws [] bs = refl
+forward-is ws (c ∷ cs) [] = refl
+forward-is ws (c ∷ cs) (b ∷ bs) =
+    ap (λ (x : Float). forward (ws ++ (div binary64 (sub binary64 b x) (getD c (length ws) nan) ∷ [])) cs bs) (dot-comm plusZero (take (length ws) c) ws)
+    ∙ forward-is _ cs bs
+
+pub forwardS-is : (ds : List Float) (ss : List (List Float)) (bs : List Float) → forwardS ds ss bs ≡ forwardLower ds ss bs
+unfolding forwardS forwardLower
+forwardS-is [] ss bs = refl
+forwardS-is (d ∷ ds) [] bs = refl
+forwardS-is (d ∷ ds) (s ∷ ss) [] = refl
+forwardS-is (d ∷ ds) (s ∷ ss) (b ∷ bs) =
+    let t = div binary64 b d in
+    ap (λ (x : List Float). t ∷ x) (ap (forwardS ds ss) (less-column t s bs) ∙ forwardS-is ds ss (axpyAll (neg t) s bs))
+
+-- ---- the right side of the held solve: an entry that is not there is NaN on both sides
+times-nan : (x : Float) → mul binary64 x nan ≡ nan
+unfolding mul
+times-nan nan = refl
+times-nan (inf s) = refl
+times-nan (fin s m e) = refl
+
+product-entry : (xs ys : List Float) (l : ℕ) → getD (productAll xs ys) l nan ≡ mul binary64 (getD xs l nan) (getD ys l nan)
+unfolding productAll mul
+product-entry [] ys l = refl
+product-entry (x ∷ xs) [] l = sym (times-nan (getD (x ∷ xs) l nan))
+product-entry (x ∷ xs) (y ∷ ys) zero = refl
+product-entry (x ∷ xs) (y ∷ ys) (suc l) = product-entry xs ys l
+
+quotient-entry : (d : Float) (v : List Float) (l : ℕ) → getD (map (λ x. div binary64 x d) v) l nan ≡ div binary64 (getD v l nan) d
+unfolding div
+quotient-entry d [] l = refl
+quotient-entry d (x ∷ v) zero = refl
+quotient-entry d (x ∷ v) (suc l) = quotient-entry d v l
+
+pub side-is : (a : Given) (v : List Float) (d : Float) → newtonSide a v d ≡ gather (a .ipvt) (productAll (map (λ x. div binary64 x d) v) (a .diag))
+unfolding newtonSide gather
+side-is a v d = by (a .ipvt)
+  where
+    by : (ls : List ℕ) → map (λ l. mul binary64 (getD (a .diag) l nan) (div binary64 (getD v l nan) d)) ls ≡ map (λ l. getD (productAll (map (λ x. div binary64 x d) v) (a .diag)) l nan) ls
+    by [] = refl
+    by (l ∷ ls) =
+        let e : mul binary64 (getD (a .diag) l nan) (div binary64 (getD v l nan) d) ≡ getD (productAll (map (λ x. div binary64 x d) v) (a .diag)) l nan =
+        times-comm binary64 (getD (a .diag) l nan) (div binary64 (getD v l nan) d)
+        ∙ ap (λ (x : Float). mul binary64 x (getD (a .diag) l nan)) (sym (quotient-entry d v l))
+        ∙ sym (product-entry (map (λ x. div binary64 x d) v) (a .diag) l) in
+        rw (e, by ls)
+
+pub gradient-is : (a : Given) (cs : List (List Float)) (ls : List ℕ) → gradient a cs ls ≡ quotients (mulUpper (a .qtb) cs) (gather ls (a .diag))
+unfolding gradient quotients mulUpper gather
+gradient-is a [] ls = refl
+gradient-is a (c ∷ cs) [] = refl
+gradient-is a (c ∷ cs) (l ∷ ls) = rw (dot-comm plusZero c (take (length c) (a .qtb)), gradient-is a cs ls)
+
+-- ---- nsing
+found : (n done k : ℕ) (ds : List Float) → k < n → nsingFrom n done k ds ≡ k
+unfolding nsingFrom
+found n done k [] h = refl
+found n done k (d ∷ ds) h = rw (ne-eqb k n (omega arith)) (by (eq d plusZero) (found n (suc done) k ds h))
+  where
+    by : (z : Bool) → nsingFrom n (suc done) k ds ≡ k → nsingFrom n (suc done) (cond (z && false) done k) ds ≡ k
+    by true r = r
+    by false r = r
+
+pub nsing-is : (n done : ℕ) (ds : List Float) → done + length ds ≡ n → nsingFrom n done n ds ≡ done + rank ds
+unfolding nsingFrom rank
+nsing-is n done [] h = omega arith
+nsing-is n done (d ∷ ds) h = rw (eq-eqb n n refl) (by (eq d plusZero) (nsing-is n (suc done) ds (omega arith)))
+  where
+    by : (z : Bool) → nsingFrom n (suc done) n ds ≡ suc done + rank ds → nsingFrom n (suc done) (cond (z && true) done n) ds ≡ done + cond z 0 (suc (rank ds))
+    by true r = found n (suc done) done ds (omega arith) ∙ omega arith
+    by false r = r ∙ omega arith
+
+-- nsing is n exactly where no entry of the diagonal is zero
+pub rank-full : (ds : List Float) → ltb (rank ds) (length ds) ≡ not (noZero ds)
+unfolding rank noZero
+rank-full [] = refl
+rank-full (d ∷ ds) = by (eq d plusZero) (rank-full ds)
+  where
+    by : (z : Bool) → ltb (rank ds) (length ds) ≡ not (noZero ds) → ltb (cond z 0 (suc (rank ds))) (suc (length ds)) ≡ not (not z && noZero ds)
+    by true h = lt-ltb 0 (suc (length ds)) (omega arith)
+    by false h = rw (compare·suc-suc (suc (rank ds)) (length ds)) h
+
+-- ---- m rows: as many as columns, or R's diagonal has a zero at place m, as where R's rows from m on are 0
+abbrev pub Enough : ℕ → List Float → Type 0
+Enough m ds = (length ds ≤ m) ⊎ (eq (getD ds m nan) plusZero ≡ true)
+
+zero-cuts : (m : ℕ) (ds : List Float) → eq (getD ds m nan) plusZero ≡ true → (rank (take m ds) ≡ rank ds) × (noZero ds ≡ false)
+unfolding rank noZero eq
+zero-cuts m [] h = absurd (true≢false (sym h))
+zero-cuts zero (d ∷ ds) h = (rw h, rw h)
+zero-cuts (suc m) (d ∷ ds) h = by (eq d plusZero) (zero-cuts m ds h)
+  where
+    by : (z : Bool) → (rank (take m ds) ≡ rank ds) × (noZero ds ≡ false) → (cond z 0 (suc (rank (take m ds))) ≡ cond z 0 (suc (rank ds))) × ((not z && noZero ds) ≡ false)
+    by true r = (refl, refl)
+    by false r = (ap suc (r .0), r .1)
+
+pub rank-rows : (m : ℕ) (ds : List Float) → Enough m ds → rank (take m ds) ≡ rank ds
+rank-rows m ds h = ⊎-elim (λ l. ap rank (take-all m ds l)) (λ e. zero-cuts m ds e .0) h
+
+pub full-rows : (m : ℕ) (ds : List Float) → Enough m ds → (leb (length ds) m && noZero ds) ≡ noZero ds
+full-rows m ds h = ⊎-elim (λ l. rw (le-leb (length ds) m l)) (λ e. let z = zero-cuts m ds e .1 in rw z (by (leb (length ds) m))) h
+  where
+    by : (b : Bool) → (b && false) ≡ false
+    by true = refl
+    by false = refl

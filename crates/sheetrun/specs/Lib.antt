@@ -1,0 +1,2 @@
+-- What the contracts of `sheetrun` cite.
+pub mod Part

@@ -1,0 +1,60 @@
+-- `speed::make::fill` is safe and ends. The measure is what is left of the room. Assumes nothing.
+use Prim.Native.Nat.{_-_}
+use mathlib.Core.Path.{_≡_}
+use lib.ListN.{length}
+use borrow.Author.Needs.{needs}
+use Rattle.speed.proofs.make.fill.Statement.{statement}
+use Rattle.speed.proofs.make.fill.Tie as tie
+
+abbrev Inv-loop : tie.InvT-loop
+Inv-loop room₀ seed s₀ i₀ room s i = length room ≡ length room₀
+
+abbrev μ-loop : tie.MeasureT-loop
+μ-loop room₀ seed s₀ i₀ room s i = length room₀ - i
+
+loop-holds : tie.Need-loop-holds Inv-loop μ-loop
+loop-holds c = search needs
+
+next-requires : tie.Need-next-requires Inv-loop μ-loop
+next-requires c κs = search needs
+
+value-of-requires : tie.Need-value-of-requires Inv-loop μ-loop
+value-of-requires c κs = search needs
+
+mul-room : tie.Need-mul-room Inv-loop μ-loop
+mul-room c = search needs
+
+slice-write-room : tie.Need-slice-write-room Inv-loop μ-loop
+slice-write-room c = search needs
+
+add-i : tie.Need-add-i Inv-loop μ-loop
+add-i c = search needs
+
+loop-less : tie.Need-loop-less Inv-loop μ-loop
+loop-less c = search needs
+
+loop-again : tie.Need-loop-again Inv-loop μ-loop
+loop-again c = search needs
+
+same-length : tie.Need-same-length Inv-loop μ-loop
+same-length c = search needs
+
+returns : tie.Need-returns Inv-loop μ-loop
+returns c = search needs
+
+pub fill-spec : {M : Type 1} → statement M
+fill-spec =
+    tie.close
+    (tie.spec
+    Inv-loop
+    μ-loop
+    loop-holds
+    next-requires
+    value-of-requires
+    mul-room
+    slice-write-room
+    add-i
+    loop-less
+    loop-again
+    same-length
+    returns)

@@ -1,0 +1,191 @@
+//! The sample that the gate replays where there is no Rust: fixed cases, then cases thinned from those of `make`.
+
+use crate::cases::{Kind, scripts};
+use crate::coverage::{Coverage, wanted_of_calls};
+use crate::engines::PLAIN;
+use crate::random::Random;
+use crate::script::Item;
+
+/// How many are kept: factorings alone; sequences without a search that gets past its input checks; sequences with one.
+const FACTORINGS: usize = 250;
+const WITHOUT: usize = 260;
+const WITH: usize = 300;
+/// Beyond that a sequence is kept for a row of the coverage that fewer calls than this have shown.
+const FEW: u64 = 3;
+const DRAWN: u64 = 4000;
+/// Every call prints the whole rooms, so of the drawn cases with more numbers in store and bench only so many are kept.
+const LONG: usize = 120;
+const LONG_KEPT: usize = 2;
+
+fn case(m: usize, n: usize, jacobian: &[f64], residuals: &[f64], calls: &[Item]) -> Vec<Item> {
+    let rooms = Item::Rooms {
+        store: n * n + 4 * n,
+        order: n,
+        bench: m * n + m,
+        out: n,
+        seed: 1,
+    };
+    let factor = Item::Factor {
+        m,
+        n,
+        jacobian: jacobian.to_vec(),
+        residuals: residuals.to_vec(),
+    };
+    [&[rooms, factor], calls, &[Item::End]].concat()
+}
+
+fn search(diag: &[f64], radius: f64, lambda: f64) -> Item {
+    Item::Search {
+        diag: diag.to_vec(),
+        radius,
+        lambda,
+    }
+}
+
+/// Document 01's examples E to L, and G with r = (36).
+fn examples() -> Vec<Vec<Item>> {
+    let three = |r: f64, call: Item| case(1, 1, &[3.0], &[r], &[call]);
+    vec![
+        case(1, 2, &[3.0, 3.0], &[1.0], &[]),
+        three(6.0, search(&[1.0], 2.0, 0.0)),
+        three(33.0, search(&[1.0], 10.0, 0.0)),
+        three(36.0, search(&[1.0], 10.0, 0.0)),
+        case(
+            1,
+            2,
+            &[3.0, 4.0],
+            &[8.0],
+            &[Item::Zero, Item::Gradient(8.0)],
+        ),
+        case(
+            4,
+            3,
+            &[0.0; 12],
+            &[1.0, 2.0, 3.0, 4.0],
+            &[Item::Determined, Item::Gradient(1.0)],
+        ),
+        three(6.0, search(&[1.0], 0.0, 0.0)),
+        three(6.0, Item::Solve(vec![1.0])),
+    ]
+}
+
+/// The largest sizes, and one row or column more; a search on the largest, and on the widest with fewer rows.
+fn limits() -> Vec<Vec<Item>> {
+    let mut rng = Random::new(1);
+    let numbers: Vec<f64> = (0..128 * 16).map(|_| rng.unit()).collect();
+    let of_ones = |m: usize, n: usize| case(m, n, &vec![1.0; m * n], &vec![1.0; m], &[]);
+    let wide = |m: usize| {
+        let asked = search(&[1.0; 16], 0.5, 0.0);
+        case(m, 16, &numbers[..m * 16], &numbers[..m], &[asked])
+    };
+    vec![
+        of_ones(128, 1),
+        of_ones(129, 1),
+        of_ones(1, 16),
+        of_ones(1, 17),
+        wide(128),
+        wide(5),
+    ]
+}
+
+/// A search of one row: Jacobian, residual, scaling, radius, lambda.
+type Witness = (&'static [f64], f64, &'static [f64], f64, f64);
+
+/// Each stop rule; each place of refusal 8; each infinite number that is answered. The same inputs stand in
+/// docs/TRACE.md.
+const WITNESSES: [Witness; 14] = [
+    (&[1.0], 1.0, &[1.0], 1.0, 0.0),
+    (&[1.0], 1.0, &[2.0], 1.0, 0.0),
+    (&[1.0, 1.0], 1.0, &[2.0, 1.0], 1.0, 1.0),
+    (&[1.0, 1.0], 4.0, &[4.0, 1.0], 1.0, 1e-320),
+    (&[1e-320], 1.0, &[1.0], 1.0, 0.0),
+    (&[1.0], 1.0, &[1.0], 1e-320, 0.0),
+    (&[1e308], 2.0, &[1e308], 1.0, 0.0),
+    (&[1.0, 1.0], 1.0, &[1e-200, 1.0], 1e-320, 0.0),
+    (&[1.0, 1e-320], 1.0, &[3.0, 1e-320], 1.0, 0.0),
+    (&[1e-300], 1e-200, &[1.0], 1.0, 0.0),
+    (&[1.0, 1.0], 1.0, &[1.0, 1e-300], 1e-300, 0.0),
+    (&[2.0, 1.0], 4.0, &[1.0, 1e308], 1.0, 1.0),
+    (&[1e-320], 1e-150, &[1.0], 1.0, 0.0),
+    (&[1.0, 1e-320], 3.0, &[1.0, 1e-320], 1.0, 1e-300),
+];
+
+/// Each search again after a zero solve: the room is what the factoring left, answered or refused.
+fn witnesses() -> Vec<Vec<Item>> {
+    WITNESSES
+        .iter()
+        .map(|&(jacobian, r, diag, radius, lambda)| {
+            let asked = search(diag, radius, lambda);
+            let calls = [asked.clone(), Item::Zero, asked];
+            case(1, jacobian.len(), jacobian, &[r], &calls)
+        })
+        .collect()
+}
+
+/// Refusals 8 that a search which went on would turn into an answer: an infinite undamped norm where R is singular;
+/// an infinite lambda for trial ten; an infinite scaled norm in trial ten, where the step alone is over the largest
+/// number. Chance does not make the last.
+fn going_on() -> Vec<Vec<Item>> {
+    let pairs = [1e3, 0.0, 1e3, 0.0, 0.0, 1e-16, 0.0, 5e-17];
+    let of_pairs = search(&[2.0, 1.0, 4e-12, 1e-12], 3e296, 2e9);
+    let of_ten = search(&[1e20, 1.0], 4.446e-304, 7.4e307);
+    let undamped = search(&[1.0, 1.0], 1.0, 0.0);
+    vec![
+        case(1, 2, &[1e-320, 0.0], &[1.0], &[undamped]),
+        case(1, 2, &[1.0, 0.0], &[5.2e24], &[of_ten]),
+        case(2, 4, &pairs, &[1.5e299, 1.1235582093e292], &[of_pairs]),
+    ]
+}
+
+fn is_long(items: &[Item]) -> bool {
+    items
+        .iter()
+        .any(|item| matches!(item, Item::Rooms { store, bench, .. } if store + bench > LONG))
+}
+
+/// Keeps what `keep` says, and of long cases the first few.
+fn thinned(
+    drawn: impl Iterator<Item = Vec<Item>>,
+    mut keep: impl FnMut(&[Item]) -> bool,
+) -> Vec<Vec<Item>> {
+    let mut long = 0;
+    drawn
+        .filter(|items| {
+            let room = !is_long(items) || long < LONG_KEPT;
+            let kept = room && keep(items);
+            long += usize::from(kept && is_long(items));
+            kept
+        })
+        .collect()
+}
+
+fn sequences() -> Vec<Vec<Item>> {
+    let (wanted, mut shown) = (wanted_of_calls(), Coverage::default());
+    let (mut with, mut without) = (0, 0);
+    thinned(scripts(Kind::Calls, DRAWN, 2), |items| {
+        let mut own = Coverage::default();
+        own.sequence(PLAIN, items);
+        let few = wanted
+            .iter()
+            .any(|label| own.count(label) > 0 && shown.count(label) < FEW);
+        let worked = own.count("search ok") + own.count("search refused 8") > 0;
+        let (kept, most) = if worked {
+            (&mut with, WITH)
+        } else {
+            (&mut without, WITHOUT)
+        };
+        if !few && *kept >= most {
+            return false;
+        }
+        *kept += 1;
+        shown.sequence(PLAIN, items);
+        true
+    })
+}
+
+pub fn cases() -> Vec<Vec<Item>> {
+    let mut factorings = thinned(scripts(Kind::Factorings, DRAWN, 1), |_| true);
+    factorings.truncate(FACTORINGS);
+    let fixed = [examples(), limits(), witnesses(), going_on()].concat();
+    [fixed, factorings, sequences()].concat()
+}
