@@ -8,7 +8,7 @@
 use leaves::reply::Place;
 ghost use mathlib.Core.Path.{_≡_};
 ghost use lib.ListN.{length};
-ghost use Rattle.fitstep.specs.Part.{Part};
+ghost use Rattle.text.specs.Part.{Part};
 
 fn sheet_room() -> [u8; 17556]
     ensures { λ r. ⌜ 17556 ≡ length r ⌝ }

@@ -2,7 +2,7 @@
 use text::double::of_bits;
 use text::read::Read;
 ghost use mathlib.Core.Path.{_≡_};
-ghost use Rattle.leafrun.specs.Part.{Part};
+ghost use Rattle.text.specs.Part.{Part};
 
 pub struct Number {
     pub value: u64,

@@ -8,7 +8,7 @@ use factor::state::Told;
 use leaves::reply::Done;
 use text::double::bits_of;
 ghost use mathlib.Core.Path.{_≡_};
-ghost use Rattle.replay.specs.Part.{Part};
+ghost use Rattle.text.specs.Part.{Part};
 
 // What the slice function told, and whether the reader left the same answer, state, store and output.
 pub struct Pair {

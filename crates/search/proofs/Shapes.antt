@@ -12,7 +12,7 @@ use Rattle.leaves.specs.Number.{plusZero}
 use Rattle.leaves.specs.Vector.{axpyAll}
 use Rattle.leaves.specs.Triangle.{solvePlace, solveDown}
 use Rattle.leaves.proofs.Folds.{axpy-length}
-use Rattle.factor.specs.Room.{Room, Shaped, zeros, diagonal, diagonalFrom}
+use Rattle.factor.specs.Room.{Room, Shaped, zeros, diagonal}
 use Rattle.factor.specs.Tests.{isPermutation}
 use Rattle.factor.specs.Solve.{scatter, padded, rank, rRank, zeroSolved}
 use Rattle.factor.specs.Eliminate.{Rows, cons, givens, turned, left, turnedAll, leftAll, rotated, started, onward, eliminated, rowsFrom, damping, heads, tails, backward, dampedSolved}
@@ -20,6 +20,7 @@ use Rattle.factor.specs.Held.{forwardUpper, forwardLower, mulUpper}
 use Rattle.factor.specs.Calls.{dampedRoom}
 use Rattle.factor.proofs.Orders.{permutation-onto, scatter-at}
 use Rattle.factor.proofs.Solves.{rank-most}
+use Rattle.factor.proofs.Squares.{diagonal-length}
 use Rattle.factor.proofs.Rotations.{turned-length, left-length}
 use Rattle.factor.proofs.Triangular.{heads-length}
 use Rattle.factor.proofs.Layouts.{leaving-shaped}
@@ -59,11 +60,6 @@ down-length : (cols : List (List Float)) (i : ℕ) (x : List Float) → i ≤ le
 unfolding solveDown
 down-length cols zero x h = refl
 down-length cols (suc i) x h = let e = place-length cols i x h in down-length cols i (solvePlace cols i x) (omega arith) ∙ e
-
-diagonal-length : (k : ℕ) (us : List (List Float)) → length (diagonalFrom k us) ≡ length us
-unfolding diagonalFrom
-diagonal-length k [] = refl
-diagonal-length k (u ∷ us) = ap suc (diagonal-length (suc k) us)
 
 pub zero-length : (m : ℕ) (us : List (List Float)) (q : List Float) → length us ≡ length q → length (zeroSolved m us q) ≡ length q
 unfolding zeroSolved

@@ -6,7 +6,7 @@ use text::digit::value;
 use text::put::bytes;
 ghost use mathlib.Core.Path.{_≡_};
 ghost use lib.ListN.{length};
-ghost use Rattle.sheetrun.specs.Part.{Part};
+ghost use Rattle.text.specs.Part.{Part};
 
 // More than the longest sheet.
 pub fn sheet() -> [u8; 32768] {

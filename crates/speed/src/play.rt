@@ -6,7 +6,7 @@ use leaves::reply::Value;
 use search::trust_region::Found;
 use std::num::wrapping_add_usize;
 use std::num::wrapping_sub_usize;
-ghost use Rattle.speed.specs.Part.{Part};
+ghost use Rattle.text.specs.Part.{Part};
 
 pub struct Task {
     pub m: usize,

@@ -2,3 +2,4 @@
 pub mod Digit
 pub mod Read
 pub mod Put
+pub mod Part

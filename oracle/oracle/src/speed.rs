@@ -49,27 +49,29 @@ impl Rooms {
             *d = if *x == 0.0 { 1.0 } else { *x };
         }
         if mode == 4 {
-            let Rooms {
-                store,
-                order,
-                diag,
-                step,
-            } = self;
-            let (_, _) = engine.solve_with_diagonal(state, store, order, diag, step);
-            return step[0];
+            let (_, _) = engine.solve_with_diagonal(
+                state,
+                &mut self.store,
+                &self.order,
+                &self.diag,
+                &mut self.step,
+            );
+            return self.step[0];
         }
         let radius = self.radius(engine, state);
         if mode == 3 {
             return radius;
         }
-        let Rooms {
-            store,
-            order,
-            diag,
-            step,
-        } = self;
-        let (found, _) = engine.search(state, store, order, diag, radius, 0.0, step);
-        found.map_or(0.0, |f| f.lambda + step[0])
+        let (found, _) = engine.search(
+            state,
+            &mut self.store,
+            &self.order,
+            &self.diag,
+            radius,
+            0.0,
+            &mut self.step,
+        );
+        found.map_or(0.0, |f| f.lambda + self.step[0])
     }
 }
 

@@ -1,4 +1,4 @@
--- What a part of a slice needs.
+-- What a part of a slice needs, for the programs.
 use Prim.Native.Nat.{ℕ, _≤_}
 use mathlib.Core.Path.{_≡_}
 use mathlib.Core.List.{List}

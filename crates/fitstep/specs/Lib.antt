@@ -1,2 +1,0 @@
--- What the contracts of `fitstep` cite.
-pub mod Part

@@ -1,2 +1,0 @@
--- What the contracts of `sheetrun` cite.
-pub mod Part
