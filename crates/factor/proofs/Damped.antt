@@ -8,14 +8,15 @@ use lib.ListN.{length, take, drop, getD, length-append, length-drop, length-repl
 use lib.Seq.{take-at, take-all}
 use lib.Ieee.{Float}
 use Rattle.leaves.specs.Number.{plusZero}
-use Rattle.factor.specs.Room.{Room, Sized, Shaped, uppersOf, belowsOf, part, load, lay, cleared, leaving, emptied}
+use Rattle.factor.specs.Room.{Room, Sized, Shaped, uppersOf, belowsOf, part, load, lay, cleared, leaving, withPart, emptied}
 use Rattle.factor.specs.Tests.{allFinite}
 use Rattle.factor.specs.Solve.{scatter, gather}
 use Rattle.factor.specs.Eliminate.{Rows, damping, dampedSolved, heads, tails}
 use Rattle.factor.specs.Edges.{Eliminates}
 use Rattle.factor.specs.Calls.{dampedRoom, dampedStep}
+use Rattle.factor.specs.PivotOrder.{lowered}
 use Rattle.factor.proofs.Layouts.{square-upper, square-of, laid, load-shaped, leaving-shaped, load-lay}
-use Rattle.factor.proofs.Lent.{square-leaving}
+use Rattle.factor.proofs.Lent.{withSquare, square-lent, square-leaving}
 
 -- ---- a finite answer, and where it goes
 pub finite-of : (n : ℕ) {b : Bool} {w x : List Float} → length w ≡ n → b ≡ allFinite (take n w) → w ≡ x → b ≡ allFinite x
@@ -63,6 +64,13 @@ module _ (n : ℕ) (ds s t w w′ l : List Float) (z : Sized n s) (e : length t 
   room-left k p =
       left-loaded n (t ++ drop (n * n) s) l (sized-lent n t s z e) k p ∙ square-leaving n t s l z e (h .upper)
       ∙ ap (λ (x : List (List Float)). leaving x l (load n s)) below-is ∙ ap (λ (x : List Float). leaving (tails (dampingOf n ds s .0)) x (load n s)) diagonal-is
+
+  -- LAW: the room that is left, but for work
+  pub room-lowered : (s′ : List Float) → load n s′ ≡ withPart 2 l (load n (t ++ drop (n * n) s)) → load n s′ ≡ lowered (dampingOf n ds s) (load n s)
+  unfolding lowered withPart
+  room-lowered s′ p =
+      p ∙ ap (λ (r : Room). withPart 2 l r) (square-lent n t s z e (h .upper ∙ square-upper n s) below-is)
+      ∙ ap (λ (x : List Float). withPart 2 x (withSquare (load n s .upper) (tails (dampingOf n ds s .0)) (load n s))) diagonal-is
 
   -- LAW: and the step
   pub step-left : {x : List Float} → x ≡ dampedSolved l (belowsOf n (take (n * n) (t ++ drop (n * n) s))) w′ → x ≡ dampedStep (dampingOf n ds s)

@@ -15,9 +15,9 @@ use Rattle.factor.specs.Solve.{zeroSolved, scatter, gather, nonSingular,
 use Rattle.factor.specs.Eliminate.{Rows, damping, heads, tails}
 use Rattle.factor.specs.Held.{heldSolved, heldProduct}
 use Rattle.factor.specs.Gradient.{gradient as measure, jxNorm}
-use Rattle.factor.specs.Calls.{written, dampedRoom, dampedStep, finiteOr8, zeroWorking, zeroCall, dampedWorking, dampedCall, solveWorking, solveCall, mulWorking, mulCall, gradientCall, jxCall, determinedCall, nonSingularCall}
+use Rattle.factor.specs.Calls.{written, dampedRoom, dampedStep, finiteOr8, zeroCall, dampedCall, solveCall, mulCall, gradientCall, jxCall, determinedCall, nonSingularCall}
 use Rattle.factor.specs.Rescale.{scalingTests, rescaled, scalingCall}
-use Rattle.factor.specs.History.{Answer, done, number, count, truth, scaled, Outcome, outcome, Call, zero-solve, zero-working, damped-solve, damped-working, held-solve, held-solve-working, held-product, held-product-working, gradient, jx-norm, scaling, determined, non-singular, ofEnded, ofTold, perform}
+use Rattle.factor.specs.History.{Answer, done, number, count, truth, scaled, Outcome, outcome, Call, zero-solve, damped-solve, held-solve, held-product, gradient, jx-norm, scaling, determined, non-singular, ofEnded, ofTold, perform}
 use Rattle.factor.specs.declared.state.Held.{Held}
 use Rattle.factor.specs.declared.state.Held.the-variants as held
 use Rattle.factor.specs.declared.state.State.{State}
@@ -26,13 +26,9 @@ use Rattle.factor.specs.declared.scaling.Mode.the-variants as mode
 -- the shortest of the slices that a call lends with a number for each column
 unfoldable pub shortestOf : Call → State → List ℕ → ℕ
 shortestOf (zero-solve out) st order = min (length order) (length out)
-shortestOf (zero-working out) st order = min (length order) (length out)
 shortestOf (damped-solve diag out) st order = min (length order) (min (length diag) (length out))
-shortestOf (damped-working diag out) st order = min (length order) (min (length diag) (length out))
 shortestOf (held-solve rhs out) st order = min (length order) (min (length rhs) (length out))
-shortestOf (held-solve-working rhs out) st order = min (length order) (min (length rhs) (length out))
 shortestOf (held-product out) st order = length out
-shortestOf (held-product-working out) st order = length out
 shortestOf (gradient bnorm) st order = length order
 shortestOf (jx-norm x) st order = min (length order) (length x)
 shortestOf (scaling mode.FirstScaled diag x bound) st order = min (length diag) (length x)
@@ -45,13 +41,9 @@ shortestOf non-singular st order = st .n
 -- what a call tests after emptiness, sizes and lengths
 unfoldable pub furtherOf : Call → State → List ℕ → List Test
 furtherOf (zero-solve out) st order = orderTest st order ∷ []
-furtherOf (zero-working out) st order = orderTest st order ∷ []
 furtherOf (damped-solve diag out) st order = orderTest st order ∷ finiteTest st diag ∷ []
-furtherOf (damped-working diag out) st order = orderTest st order ∷ []
 furtherOf (held-solve rhs out) st order = orderTest st order ∷ heldTest st ∷ finiteTest st rhs ∷ []
-furtherOf (held-solve-working rhs out) st order = orderTest st order ∷ heldTest st ∷ []
 furtherOf (held-product out) st order = heldTest st ∷ []
-furtherOf (held-product-working out) st order = heldTest st ∷ []
 furtherOf (gradient bnorm) st order = orderTest st order ∷ finiteNumber bnorm ∷ (notAbove bnorm, 7) ∷ []
 furtherOf (jx-norm x) st order = orderTest st order ∷ finiteTest st x ∷ []
 furtherOf (scaling mode.FirstScaled diag x bound) st order = finiteTest st x ∷ finiteNumber bound ∷ (notAbove bound, 7) ∷ []
@@ -68,13 +60,9 @@ testsOf c st store order = roomTests st store (shortestOf c st order) ++ further
 -- a refusal in a call's own kind of answer, and the output that it lends
 abbrev pub refusedAs : Call → ℕ → Answer
 refusedAs (zero-solve out) k = done (refused k)
-refusedAs (zero-working out) k = done (refused k)
 refusedAs (damped-solve diag out) k = done (refused k)
-refusedAs (damped-working diag out) k = done (refused k)
 refusedAs (held-solve rhs out) k = done (refused k)
-refusedAs (held-solve-working rhs out) k = done (refused k)
 refusedAs (held-product out) k = done (refused k)
-refusedAs (held-product-working out) k = done (refused k)
 refusedAs (gradient bnorm) k = number (refused k)
 refusedAs (jx-norm x) k = number (refused k)
 refusedAs (scaling md diag x bound) k = scaled (refused k)
@@ -83,13 +71,9 @@ refusedAs non-singular k = truth (refused k)
 
 abbrev pub lentOut : Call → List Float
 lentOut (zero-solve out) = out
-lentOut (zero-working out) = out
 lentOut (damped-solve diag out) = out
-lentOut (damped-working diag out) = out
 lentOut (held-solve rhs out) = out
-lentOut (held-solve-working rhs out) = out
 lentOut (held-product out) = out
-lentOut (held-product-working out) = out
 lentOut (gradient bnorm) = []
 lentOut (jx-norm x) = []
 lentOut (scaling md diag x bound) = diag
@@ -143,15 +127,11 @@ dampedEffect st order l out = solved held.Damped (tails (l .0)) (heads (l .0)) (
 
 unfoldable pub effect : Call → State → List ℕ → Room → Effect
 effect (zero-solve out) st order r = finiteOr (zeroX st r) (zeroEffect st order r out) (broken r out)
-effect (zero-working out) st order r = zeroEffect st order r out
 effect (damped-solve diag out) st order r =
     let l = dampedL st order diag r in
     finiteOr (dampedStep l) (dampedEffect st order l out) (broken r out)
-effect (damped-working diag out) st order r = dampedEffect st order (dampedL st order diag r) out
 effect (held-solve rhs out) st order r = restingIf st r (heldSolved (st .held) (gather (take (st .n) order) rhs) r) out
-effect (held-solve-working rhs out) st order r = resting (done (answered tt)) st r (written (heldSolved (st .held) (gather (take (st .n) order) rhs) r) out)
 effect (held-product out) st order r = restingIf st r (heldProduct (st .held) r) out
-effect (held-product-working out) st order r = resting (done (answered tt)) st r (written (heldProduct (st .held) r) out)
 effect (gradient bnorm) st order r = resting (number (measure (gather (take (st .n) order) (r .norms)) bnorm (r .upper) (r .qtb))) st r []
 effect (jx-norm x) st order r = resting (number (finiteOr8 (jxNorm (gather (take (st .n) order) x) (r .upper)))) st r []
 effect (scaling md diag x bound) st order r =
@@ -184,15 +164,11 @@ pub perform-is : (c : Call) (st : State) (order : List ℕ) (s : List Float)
       | true ↦ effected st s (effect c st order (load (st .n) s))
       | false ↦ refusal c (testedOf c st order s) st s
     ]
-unfolding perform shortestOf furtherOf effect finiteOr zeroWorking zeroCall dampedRoom dampedWorking dampedCall solveWorking solveCall mulWorking mulCall gradientCall jxCall determinedCall nonSingularCall scalingTests scalingCall
+unfolding perform shortestOf furtherOf effect finiteOr zeroCall dampedRoom dampedCall solveCall mulCall gradientCall jxCall determinedCall nonSingularCall scalingTests scalingCall
 perform-is (zero-solve out) st order s = by-tests (ofEnded done) (eqb (testedOf (zero-solve out) st order s) 0) (chosen (ofEnded done) (effected st s) (allFinite (zeroX st (load (st .n) s))) refl refl) refl
-perform-is (zero-working out) st order s = by-tests (ofEnded done) (eqb (testedOf (zero-working out) st order s) 0) refl refl
 perform-is (damped-solve diag out) st order s = by-tests (ofEnded done) (eqb (testedOf (damped-solve diag out) st order s) 0) (chosen (ofEnded done) (effected st s) (allFinite (dampedStep (dampedL st order diag (load (st .n) s)))) refl refl) refl
-perform-is (damped-working diag out) st order s = by-tests (ofEnded done) (eqb (testedOf (damped-working diag out) st order s) 0) refl refl
 perform-is (held-solve rhs out) st order s = by-tests (ofEnded done) (eqb (testedOf (held-solve rhs out) st order s) 0) (chosen (ofEnded done) (effected st s) (allFinite (heldSolved (st .held) (gather (take (st .n) order) rhs) (load (st .n) s))) refl refl) refl
-perform-is (held-solve-working rhs out) st order s = by-tests (ofEnded done) (eqb (testedOf (held-solve-working rhs out) st order s) 0) refl refl
 perform-is (held-product out) st order s = by-tests (ofEnded done) (eqb (testedOf (held-product out) st order s) 0) (chosen (ofEnded done) (effected st s) (allFinite (heldProduct (st .held) (load (st .n) s))) refl refl) refl
-perform-is (held-product-working out) st order s = by-tests (ofEnded done) (eqb (testedOf (held-product-working out) st order s) 0) refl refl
 perform-is (gradient bnorm) st order s = by-tests (ofTold number) (eqb (testedOf (gradient bnorm) st order s) 0) refl refl
 perform-is (jx-norm x) st order s = by-tests (ofTold number) (eqb (testedOf (jx-norm x) st order s) 0) refl refl
 perform-is (scaling mode.FirstScaled diag x bound) st order s = by-tests (ofEnded scaled) (eqb (testedOf (scaling mode.FirstScaled diag x bound) st order s) 0) refl refl

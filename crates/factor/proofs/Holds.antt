@@ -16,7 +16,7 @@ use Rattle.factor.specs.Room.{Room, Sized, uppersOf, belowsOf, part, loa
 use Rattle.factor.specs.Tests.{Test, firstOf, roomTests, heldTest, finiteTest, allFinite}
 use Rattle.factor.specs.Solve.{gather}
 use Rattle.factor.specs.Held.{forwardUpper, forwardLower, mulUpper, mulLower, heldSolved, heldProduct}
-use Rattle.factor.specs.Calls.{ended, written, solveTests, restedIf, solveWorking, solveCall, mulWorking, mulCall}
+use Rattle.factor.specs.Calls.{ended, written, solveTests, restedIf, solveCall, mulCall}
 use Rattle.factor.specs.declared.state.Held.{Held}
 use Rattle.factor.specs.declared.state.Held.the-variants as held
 use Rattle.factor.specs.declared.state.State.{State}
@@ -133,9 +133,6 @@ rested-refused st r x out h = rw (sym h, restedIf)
 
 -- ---- each call by its tests
 module _ (st : State) (order : List ℕ) (rhs store out : List Float) (c : ℕ) where
-  abbrev solve-ts : List Test
-  solve-ts = solveTests st (length store) order (min (length rhs) (length out)) ++ (heldTest st ∷ [])
-
   abbrev solve-all-ts : List Test
   solve-all-ts = solveTests st (length store) order (min (length rhs) (length out)) ++ (heldTest st ∷ finiteTest st rhs ∷ [])
 
@@ -144,15 +141,6 @@ module _ (st : State) (order : List ℕ) (rhs store out : List Float) (c : ℕ) 
 
   abbrev left : List Float
   left = lay (rested (load (st .n) store))
-
-  pub solve-working-refused : c ≡ firstOf solve-ts → (c ≡ 0 → ⊥) → ended (refused c) st store out ≡ solveWorking st order rhs store out
-  unfolding solveWorking
-  solve-working-refused e h = call-refused _ (λ (k : ℕ). ended (refused k) st store out) solve-ts c (sym e) (ne-eqb c 0 h)
-
-  pub solve-working-answered : {s o : List Float} → c ≡ firstOf solve-ts → c ≡ 0 → s ≡ left → o ≡ written answer out
-      → ended (answered tt) st s o ≡ solveWorking st order rhs store out
-  unfolding solveWorking
-  solve-working-answered e z f g = rw (f, g) (call-worked _ (λ (k : ℕ). ended (refused k) st store out) solve-ts (sym e ∙ z))
 
   pub solve-refused : c ≡ firstOf solve-all-ts → (c ≡ 0 → ⊥) → ended (refused c) st store out ≡ solveCall st order rhs store out
   unfolding solveCall
@@ -177,15 +165,6 @@ module _ (st : State) (store out : List Float) (c : ℕ) where
 
   abbrev kept : List Float
   kept = lay (rested (load (st .n) store))
-
-  pub mul-working-refused : c ≡ firstOf mul-ts → (c ≡ 0 → ⊥) → ended (refused c) st store out ≡ mulWorking st store out
-  unfolding mulWorking
-  mul-working-refused e h = call-refused _ (λ (k : ℕ). ended (refused k) st store out) mul-ts c (sym e) (ne-eqb c 0 h)
-
-  pub mul-working-answered : {s o : List Float} → c ≡ firstOf mul-ts → c ≡ 0 → s ≡ kept → o ≡ written product out
-      → ended (answered tt) st s o ≡ mulWorking st store out
-  unfolding mulWorking
-  mul-working-answered e z f g = rw (f, g) (call-worked _ (λ (k : ℕ). ended (refused k) st store out) mul-ts (sym e ∙ z))
 
   pub mul-refused : c ≡ firstOf mul-ts → (c ≡ 0 → ⊥) → ended (refused c) st store out ≡ mulCall st store out
   unfolding mulCall

@@ -11,7 +11,7 @@ use borrow.Author.Tests.{eqb-true, eq-eqb}
 use Rattle.factor.specs.State.{isEmpty, storeNeed, withHeld}
 use Rattle.factor.specs.Room.{Room, Shaped, part, load, zeros, leaving}
 use Rattle.factor.specs.Tests.{firstOf}
-use Rattle.factor.specs.History.{OutcomeOf, Outcome, Call, zero-solve, zero-working, damped-solve, damped-working, held-solve, held-solve-working, held-product, held-product-working, gradient, jx-norm, scaling, determined, non-singular, perform, isSolve, isHeld}
+use Rattle.factor.specs.History.{OutcomeOf, Outcome, Call, zero-solve, damped-solve, held-solve, held-product, gradient, jx-norm, scaling, determined, non-singular, perform, isSolve, isHeld}
 use Rattle.factor.specs.declared.state.Held.{Held}
 use Rattle.factor.specs.declared.state.State.{State}
 use Rattle.factor.proofs.Layouts.{load-shaped}
@@ -185,13 +185,9 @@ call-otherwise c st order s h = performed c st order s (λ (o : Outcome). Unsett
 -- ---- a solve and what is held
 solve-apart : (c : Call) → isSolve c ≡ true → isHeld c ≡ false
 solve-apart (zero-solve out) h = refl
-solve-apart (zero-working out) h = refl
 solve-apart (damped-solve diag out) h = refl
-solve-apart (damped-working diag out) h = refl
 solve-apart (held-solve rhs out) h = absurd (true≢false (sym h))
-solve-apart (held-solve-working rhs out) h = absurd (true≢false (sym h))
 solve-apart (held-product out) h = absurd (true≢false (sym h))
-solve-apart (held-product-working out) h = absurd (true≢false (sym h))
 solve-apart (gradient bnorm) h = absurd (true≢false (sym h))
 solve-apart (jx-norm x) h = absurd (true≢false (sym h))
 solve-apart (scaling md diag x bound) h = absurd (true≢false (sym h))
@@ -202,13 +198,9 @@ module _ (st : State) (h : Held) (order : List ℕ) where
   shortest-fresh : (c : Call) → isSolve c ≡ true → shortestOf c (withHeld st h) order ≡ shortestOf c st order
   unfolding shortestOf
   shortest-fresh (zero-solve out) a = refl
-  shortest-fresh (zero-working out) a = refl
   shortest-fresh (damped-solve diag out) a = refl
-  shortest-fresh (damped-working diag out) a = refl
   shortest-fresh (held-solve rhs out) a = absurd (true≢false (sym a))
-  shortest-fresh (held-solve-working rhs out) a = absurd (true≢false (sym a))
   shortest-fresh (held-product out) a = absurd (true≢false (sym a))
-  shortest-fresh (held-product-working out) a = absurd (true≢false (sym a))
   shortest-fresh (gradient bnorm) a = absurd (true≢false (sym a))
   shortest-fresh (jx-norm x) a = absurd (true≢false (sym a))
   shortest-fresh (scaling md diag x bound) a = absurd (true≢false (sym a))
@@ -218,13 +210,9 @@ module _ (st : State) (h : Held) (order : List ℕ) where
   further-fresh : (c : Call) → isSolve c ≡ true → furtherOf c (withHeld st h) order ≡ furtherOf c st order
   unfolding furtherOf
   further-fresh (zero-solve out) a = refl
-  further-fresh (zero-working out) a = refl
   further-fresh (damped-solve diag out) a = refl
-  further-fresh (damped-working diag out) a = refl
   further-fresh (held-solve rhs out) a = absurd (true≢false (sym a))
-  further-fresh (held-solve-working rhs out) a = absurd (true≢false (sym a))
   further-fresh (held-product out) a = absurd (true≢false (sym a))
-  further-fresh (held-product-working out) a = absurd (true≢false (sym a))
   further-fresh (gradient bnorm) a = absurd (true≢false (sym a))
   further-fresh (jx-norm x) a = absurd (true≢false (sym a))
   further-fresh (scaling md diag x bound) a = absurd (true≢false (sym a))
@@ -234,13 +222,9 @@ module _ (st : State) (h : Held) (order : List ℕ) where
   effect-fresh : (c : Call) → isSolve c ≡ true → (r : Room) → effect c (withHeld st h) order r ≡ effect c st order r
   unfolding effect
   effect-fresh (zero-solve out) a r = refl
-  effect-fresh (zero-working out) a r = refl
   effect-fresh (damped-solve diag out) a r = refl
-  effect-fresh (damped-working diag out) a r = refl
   effect-fresh (held-solve rhs out) a r = absurd (true≢false (sym a))
-  effect-fresh (held-solve-working rhs out) a r = absurd (true≢false (sym a))
   effect-fresh (held-product out) a r = absurd (true≢false (sym a))
-  effect-fresh (held-product-working out) a r = absurd (true≢false (sym a))
   effect-fresh (gradient bnorm) a r = absurd (true≢false (sym a))
   effect-fresh (jx-norm x) a r = absurd (true≢false (sym a))
   effect-fresh (scaling md diag x bound) a r = absurd (true≢false (sym a))

@@ -11,7 +11,7 @@ use Rattle.factor.specs.State.{storeNeed}
 use Rattle.factor.specs.Room.{Room, Sized, Shaped, load, leaving}
 use Rattle.factor.specs.Tests.{roomTests, allFinite}
 use Rattle.factor.specs.Eliminate.{heads, tails}
-use Rattle.factor.specs.History.{Outcome, Call, zero-solve, zero-working, damped-solve, damped-working, held-solve, held-solve-working, held-product, held-product-working, gradient, jx-norm, scaling, determined, non-singular, perform}
+use Rattle.factor.specs.History.{Outcome, Call, zero-solve, damped-solve, held-solve, held-product, gradient, jx-norm, scaling, determined, non-singular, perform}
 use Rattle.factor.specs.declared.state.State.{State}
 use Rattle.factor.specs.declared.scaling.Mode.the-variants as mode
 use Rattle.factor.proofs.Refusals.{numbered, passed-iff, none-of-both}
@@ -26,13 +26,9 @@ use Rattle.factor.proofs.Effects.{Effect, effect, effected, refusal, fi
 further-numbered : (c : Call) (st : State) (order : List ℕ) → numbered (furtherOf c st order) ≡ true
 unfolding furtherOf
 further-numbered (zero-solve out) st order = refl
-further-numbered (zero-working out) st order = refl
 further-numbered (damped-solve diag out) st order = refl
-further-numbered (damped-working diag out) st order = refl
 further-numbered (held-solve rhs out) st order = refl
-further-numbered (held-solve-working rhs out) st order = refl
 further-numbered (held-product out) st order = refl
-further-numbered (held-product-working out) st order = refl
 further-numbered (gradient bnorm) st order = refl
 further-numbered (jx-norm x) st order = refl
 further-numbered (scaling mode.FirstScaled diag x bound) st order = refl
@@ -96,13 +92,9 @@ module _ (st : State) (order : List ℕ) (r : Room) (z : Shaped (st .n) r) where
   pub effect-shaped : (c : Call) → Left (effect c st order r)
   unfolding effect
   effect-shaped (zero-solve out) = either Left _ _ _ (emptied-shaped (st .n) r z) (emptied-shaped (st .n) r z)
-  effect-shaped (zero-working out) = emptied-shaped (st .n) r z
   effect-shaped (damped-solve diag out) = either Left _ _ _ (rows-left diag) (emptied-shaped (st .n) r z)
-  effect-shaped (damped-working diag out) = rows-left diag
   effect-shaped (held-solve rhs out) = either Left _ _ _ (rested-shaped (st .n) r z) (rested-shaped (st .n) r z)
-  effect-shaped (held-solve-working rhs out) = rested-shaped (st .n) r z
   effect-shaped (held-product out) = either Left _ _ _ (rested-shaped (st .n) r z) (rested-shaped (st .n) r z)
-  effect-shaped (held-product-working out) = rested-shaped (st .n) r z
   effect-shaped (gradient bnorm) = rested-shaped (st .n) r z
   effect-shaped (jx-norm x) = rested-shaped (st .n) r z
   effect-shaped (scaling md diag x bound) = rested-shaped (st .n) r z

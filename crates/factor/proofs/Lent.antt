@@ -9,17 +9,18 @@ use native.Mathlib.Numerals.{add-one}
 use native.Mathlib.Decide.{decLt}
 use native.Mathlib.Omega.{arith}
 use lib.Dec.{eqb}
-use lib.ListN.{length, getD, take, drop, set, length-set}
+use lib.ListN.{length, getD, take, drop, set, length-set, length-replicate, replicate-append-replicate}
 use lib.Seq.{take-append-le, drop-drop, ext-getD, getD-set-same, getD-set-other}
 use lib.Ieee.{Float}
 use borrow.Author.Tests.{eq-eqb, ne-eqb}
+use Rattle.leaves.specs.Number.{plusZero}
 use Rattle.leaves.specs.Reply.{Reply}
 use Rattle.leaves.specs.Vector.{copy}
 use Rattle.leaves.specs.Triangle.{columns}
 use Rattle.leaves.proofs.Folds.{copy-is}
 use Rattle.leaves.proofs.Triangles.{column-fits}
 use Rattle.factor.specs.Room.{Room, Sized, Square, Shaped, uppersOf, belowsOf, part, load, zeros, cleared, leaving, withPart, rested, emptied}
-use Rattle.factor.proofs.Splices.{splice, lent, part-long, drop-front, drop-take, splice-length, splice-take, splice-before, splice-at, splice-drop}
+use Rattle.factor.proofs.Splices.{splice, splice-twice, lent, filled, part-long, drop-front, drop-take, splice-length, splice-take, splice-before, splice-at, splice-drop}
 use Rattle.factor.proofs.Squares.{uppersOf-length, belowsOf-length, column-end, upper-at, below-at}
 use Rattle.factor.proofs.Layouts.{columns-same, square-upper, square-of}
 
@@ -71,6 +72,22 @@ part-lent n k a y s z h e l =
     let f = z .fits in
     let c = column-fits k 4 n h in
     rw (lent a (a + n) y s (omega arith), e) (load-put n k y s l (omega arith) h)
+
+-- the last two parts, filled at once
+pub last-lent : (n a : ℕ) (y s : List Float) → Sized n s → a ≡ n * n + 2 * n → y ≡ zeros (length (take (a + 2 * n - a) (drop a s)))
+    → load n (take a s ++ (y ++ drop (a + 2 * n - a) (drop a s))) ≡ withPart 3 (zeros n) (withPart 2 (zeros n) (load n s))
+last-lent n a y s z e g =
+    let f = z .fits in
+    let k : length (zeros n) ≡ n = length-replicate n plusZero in
+    let w : a + 2 * n - a ≡ n + n = omega arith in
+    let p : y ≡ zeros n ++ zeros n = filled a (a + 2 * n) y s plusZero (omega arith) g ∙ ap zeros w ∙ sym (replicate-append-replicate n n plusZero) in
+    let b : n * n + 2 * n + n ≡ n * n + 3 * n = omega arith in
+    let d : a + 2 * n ≡ n * n + 3 * n + n = omega arith in
+    let x : List Float = splice (n * n + 2 * n) (n * n + 3 * n) (zeros n) s in
+    let l : length x ≡ length s = splice-length (n * n + 2 * n) (n * n + 3 * n) (zeros n) s (omega arith) (omega arith) in
+    let one : load n x ≡ withPart 2 (zeros n) (load n s) = rw b at (load-put n 2 (zeros n) s k (omega arith) (omega arith)) in
+    rw (lent a (a + 2 * n) y s (omega arith), d, e, p, splice-twice (n * n + 2 * n) (n * n + 3 * n) (n * n + 3 * n + n) (zeros n) (zeros n) s (omega arith) (omega arith) (omega arith))
+    (load-put n 3 (zeros n) x k (omega arith) (omega arith) ∙ ap (λ (r : Room). withPart 3 (zeros n) r) one)
 
 -- what `copy` leaves of slices of one length
 pub copy-leaves : (xs ys l : List Float) {d : Reply (Unit {0})} → length xs ≡ length ys → (d, l) ≡ copy xs ys → l ≡ xs

@@ -40,6 +40,8 @@ pub mod Readers
 pub mod OneReader
 pub mod Measured
 pub mod OneMeasure
+pub mod PivotOrders
+pub mod OnePivotOrder
 pub mod Fitting
 pub mod Swaps
 pub mod Answered

@@ -13,15 +13,9 @@ use Rattle.leaves.proofs.Replies.{doneOf-same}
 use Rattle.factor.specs.Calls.{Ended, ended}
 use Rattle.factor.specs.declared.state.State.{State}
 use Rattle.factor.specs.declared.state.Told.{Told}
-use Rattle.factor.proofs.cholesky.solve_working.{signature as solve-working-signature}
-use Rattle.factor.proofs.cholesky.solve_working.Reads as solve-working
-use Rattle.factor.proofs.cholesky.solve_working.Kinds as solve-working-kinds
 use Rattle.factor.proofs.cholesky.solve.{signature as solve-signature}
 use Rattle.factor.proofs.cholesky.solve.Reads as solve
 use Rattle.factor.proofs.cholesky.solve.Kinds as solve-kinds
-use Rattle.factor.proofs.cholesky.mul_working.{signature as mul-working-signature}
-use Rattle.factor.proofs.cholesky.mul_working.Reads as mul-working
-use Rattle.factor.proofs.cholesky.mul_working.Kinds as mul-working-kinds
 use Rattle.factor.proofs.cholesky.mul_qt_b.{signature as mul-qt-b-signature}
 use Rattle.factor.proofs.cholesky.mul_qt_b.Reads as mul-qt-b
 use Rattle.factor.proofs.cholesky.mul_qt_b.Kinds as mul-qt-b-kinds
@@ -43,20 +37,10 @@ end-same r t e =
       ap (λ (x : End). x .out) e,
     )
 
-pub solve-working-one-outcome : (κs : Lfts 4) (a : ArgsD solve-working-signature κs) (r₁ r₂ : Told) (s₁ s₂ : AtExit (endedOf 4 solve-working-kinds.ps solve-working-kinds.r) κs)
-    → solve-working.Post κs a r₁ s₁ → solve-working.Post κs a r₂ s₂
-    → (r₁ ≡ r₂) × (now (s₁ .1 .0) ≡ now (s₂ .1 .0)) × (now (s₁ .1 .1 .1 .1 .0) ≡ now (s₂ .1 .1 .1 .1 .0))
-solve-working-one-outcome κs a r₁ r₂ s₁ s₂ p q = end-same r₁ r₂ (p ∙ sym q)
-
 pub solve-one-outcome : (κs : Lfts 4) (a : ArgsD solve-signature κs) (r₁ r₂ : Told) (s₁ s₂ : AtExit (endedOf 4 solve-kinds.ps solve-kinds.r) κs)
     → solve.Post κs a r₁ s₁ → solve.Post κs a r₂ s₂
     → (r₁ ≡ r₂) × (now (s₁ .1 .0) ≡ now (s₂ .1 .0)) × (now (s₁ .1 .1 .1 .1 .0) ≡ now (s₂ .1 .1 .1 .1 .0))
 solve-one-outcome κs a r₁ r₂ s₁ s₂ p q = end-same r₁ r₂ (p ∙ sym q)
-
-pub mul-working-one-outcome : (κs : Lfts 2) (a : ArgsD mul-working-signature κs) (r₁ r₂ : Told) (s₁ s₂ : AtExit (endedOf 2 mul-working-kinds.ps mul-working-kinds.r) κs)
-    → mul-working.Post κs a r₁ s₁ → mul-working.Post κs a r₂ s₂
-    → (r₁ ≡ r₂) × (now (s₁ .1 .0) ≡ now (s₂ .1 .0)) × (now (s₁ .1 .1 .0) ≡ now (s₂ .1 .1 .0))
-mul-working-one-outcome κs a r₁ r₂ s₁ s₂ p q = end-same r₁ r₂ (p ∙ sym q)
 
 pub mul-qt-b-one-outcome : (κs : Lfts 2) (a : ArgsD mul-qt-b-signature κs) (r₁ r₂ : Told) (s₁ s₂ : AtExit (endedOf 2 mul-qt-b-kinds.ps mul-qt-b-kinds.r) κs)
     → mul-qt-b.Post κs a r₁ s₁ → mul-qt-b.Post κs a r₂ s₂

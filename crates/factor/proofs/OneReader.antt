@@ -48,7 +48,7 @@ use Rattle.factor.proofs.reader.mul_with_reader.Reads as mul-with-reade
 use Rattle.factor.proofs.reader.mul_with_reader.Kinds as mul-with-reader-kinds
 
 -- an answer and the output after it
-read-same : (r t : Done) {o p : List Float} → read (doneOf r) o ≡ read (doneOf t) p → (r ≡ t) × (o ≡ p)
+pub read-same : (r t : Done) {o p : List Float} → read (doneOf r) o ≡ read (doneOf t) p → (r ≡ t) × (o ≡ p)
 read-same r t e = (doneOf-same r t (ap (λ (x : Read). x .reply) e), ap (λ (x : Read). x .out) e)
 
 -- ---- by hand: the maker

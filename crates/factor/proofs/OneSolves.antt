@@ -13,15 +13,9 @@ use Rattle.leaves.proofs.Replies.{doneOf-same}
 use Rattle.factor.specs.Calls.{Ended, ended}
 use Rattle.factor.specs.declared.state.State.{State}
 use Rattle.factor.specs.declared.state.Told.{Told}
-use Rattle.factor.proofs.least_squares.zero_working.{signature as zero-working-signature}
-use Rattle.factor.proofs.least_squares.zero_working.Reads as zero-working
-use Rattle.factor.proofs.least_squares.zero_working.Kinds as zero-working-kinds
 use Rattle.factor.proofs.least_squares.solve_with_zero_diagonal.{signature as solve-with-zero-diagonal-signature}
 use Rattle.factor.proofs.least_squares.solve_with_zero_diagonal.Reads as solve-with-zero-diagonal
 use Rattle.factor.proofs.least_squares.solve_with_zero_diagonal.Kinds as solve-with-zero-diagonal-kinds
-use Rattle.factor.proofs.least_squares.damped_working.{signature as damped-working-signature}
-use Rattle.factor.proofs.least_squares.damped_working.Reads as damped-working
-use Rattle.factor.proofs.least_squares.damped_working.Kinds as damped-working-kinds
 use Rattle.factor.proofs.least_squares.solve_with_diagonal.{signature as solve-with-diagonal-signature}
 use Rattle.factor.proofs.least_squares.solve_with_diagonal.Reads as solve-with-diagonal
 use Rattle.factor.proofs.least_squares.solve_with_diagonal.Kinds as solve-with-diagonal-kinds
@@ -37,17 +31,9 @@ told-same r t s s′ o o′ e =
       ap (λ (x : Ended (Unit {0})). x .out) e,
     )
 
-pub zero-working-one-outcome : (κs : Lfts 3) (a : ArgsD zero-working-signature κs) (r₁ r₂ : Told) (s₁ s₂ : AtExit (endedOf 3 zero-working-kinds.ps zero-working-kinds.r) κs)
-    → zero-working.Post κs a r₁ s₁ → zero-working.Post κs a r₂ s₂ → (r₁ ≡ r₂) × (now (s₁ .1 .0) ≡ now (s₂ .1 .0)) × (now (s₁ .1 .1 .1 .0) ≡ now (s₂ .1 .1 .1 .0))
-zero-working-one-outcome κs a r₁ r₂ s₁ s₂ p q = told-same r₁ r₂ (now (s₁ .1 .0)) (now (s₂ .1 .0)) (now (s₁ .1 .1 .1 .0)) (now (s₂ .1 .1 .1 .0)) (p ∙ sym q)
-
 pub solve-with-zero-diagonal-one-outcome : (κs : Lfts 3) (a : ArgsD solve-with-zero-diagonal-signature κs) (r₁ r₂ : Told) (s₁ s₂ : AtExit (endedOf 3 solve-with-zero-diagonal-kinds.ps solve-with-zero-diagonal-kinds.r) κs)
     → solve-with-zero-diagonal.Post κs a r₁ s₁ → solve-with-zero-diagonal.Post κs a r₂ s₂ → (r₁ ≡ r₂) × (now (s₁ .1 .0) ≡ now (s₂ .1 .0)) × (now (s₁ .1 .1 .1 .0) ≡ now (s₂ .1 .1 .1 .0))
 solve-with-zero-diagonal-one-outcome κs a r₁ r₂ s₁ s₂ p q = told-same r₁ r₂ (now (s₁ .1 .0)) (now (s₂ .1 .0)) (now (s₁ .1 .1 .1 .0)) (now (s₂ .1 .1 .1 .0)) (p ∙ sym q)
-
-pub damped-working-one-outcome : (κs : Lfts 4) (a : ArgsD damped-working-signature κs) (r₁ r₂ : Told) (s₁ s₂ : AtExit (endedOf 4 damped-working-kinds.ps damped-working-kinds.r) κs)
-    → damped-working.Post κs a r₁ s₁ → damped-working.Post κs a r₂ s₂ → (r₁ ≡ r₂) × (now (s₁ .1 .0) ≡ now (s₂ .1 .0)) × (now (s₁ .1 .1 .1 .1 .0) ≡ now (s₂ .1 .1 .1 .1 .0))
-damped-working-one-outcome κs a r₁ r₂ s₁ s₂ p q = told-same r₁ r₂ (now (s₁ .1 .0)) (now (s₂ .1 .0)) (now (s₁ .1 .1 .1 .1 .0)) (now (s₂ .1 .1 .1 .1 .0)) (p ∙ sym q)
 
 pub solve-with-diagonal-one-outcome : (κs : Lfts 4) (a : ArgsD solve-with-diagonal-signature κs) (r₁ r₂ : Told) (s₁ s₂ : AtExit (endedOf 4 solve-with-diagonal-kinds.ps solve-with-diagonal-kinds.r) κs)
     → solve-with-diagonal.Post κs a r₁ s₁ → solve-with-diagonal.Post κs a r₂ s₂ → (r₁ ≡ r₂) × (now (s₁ .1 .0) ≡ now (s₂ .1 .0)) × (now (s₁ .1 .1 .1 .1 .0) ≡ now (s₂ .1 .1 .1 .1 .0))

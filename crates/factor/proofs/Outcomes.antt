@@ -15,7 +15,7 @@ use Rattle.factor.specs.Room.{Room, Sized, load, lay, emptied}
 use Rattle.factor.specs.Tests.{Test, firstOf, finiteTest, allFinite}
 use Rattle.factor.specs.Solve.{zeroSolved, scatter, gather}
 use Rattle.factor.specs.Eliminate.{Rows}
-use Rattle.factor.specs.Calls.{ended, solveTests, solvedAs, solvedIf, dampedRoom, dampedStep, zeroWorking, zeroCall, dampedWorking, dampedCall}
+use Rattle.factor.specs.Calls.{ended, solveTests, solvedAs, solvedIf, dampedRoom, dampedStep, zeroCall, dampedCall}
 use Rattle.factor.specs.declared.state.Held.{Held}
 use Rattle.factor.specs.declared.state.Held.the-variants as held
 use Rattle.factor.specs.declared.state.State.{State}
@@ -80,15 +80,6 @@ module _ (st : State) (order : List ℕ) (store out : List Float) {c : ℕ} (e :
   abbrev zeroed : List Float
   zeroed = zeroSolved (st .m) (load (st .n) store .upper) (load (st .n) store .qtb)
 
-  pub zero-working-refused : (c ≡ 0 → ⊥) → ended (refused c) st store out ≡ zeroWorking st order store out
-  unfolding zeroWorking
-  zero-working-refused h = call-refused _ (λ k. ended (refused k) st store out) _ c (sym e) (ne-eqb c 0 h)
-
-  pub zero-working-answered : {t : State} {s o : List Float} → c ≡ 0 → t ≡ withHeld st held.Zero → s ≡ lay (emptied (load (st .n) store))
-      → o ≡ scatter (take (st .n) order) zeroed out → ended (answered tt) t s o ≡ zeroWorking st order store out
-  unfolding zeroWorking
-  zero-working-answered z h f g = same-ended (answered tt) h f g ∙ call-worked _ (λ k. ended (refused k) st store out) _ (sym e ∙ z)
-
   pub zero-call-refused : (c ≡ 0 → ⊥) → ended (refused c) st store out ≡ zeroCall st order store out
   unfolding zeroCall
   zero-call-refused h = call-refused _ (λ k. ended (refused k) st store out) _ c (sym e) (ne-eqb c 0 h)
@@ -124,19 +115,6 @@ module _ (st : State) (diag : List Float) (order : List ℕ) (s o : ℕ) {c : �
   pub damped-passed : c ≡ 0 → allFinite (take (st .n) diag) ≡ true → 0 ≡ firstOf (tests ++ (finiteTest st diag ∷ []))
   unfolding firstOf
   damped-passed z b = sym (went-on tests (finiteTest st diag ∷ []) c refl e z ∙ test-passed (finiteTest st diag) [] (rw b))
-
-module _ (st : State) (diag : List Float) (order : List ℕ) (store out : List Float) {c : ℕ} (e : c ≡ firstOf (solveTests st (length store) order (min (length diag) (length out)))) where
-  abbrev lowered : Rows
-  lowered = dampingOf (st .n) (gather (take (st .n) order) diag) store
-
-  pub damped-working-refused : (c ≡ 0 → ⊥) → ended (refused c) st store out ≡ dampedWorking st diag order store out
-  unfolding dampedWorking
-  damped-working-refused h = call-refused _ (λ k. ended (refused k) st store out) _ c (sym e) (ne-eqb c 0 h)
-
-  pub damped-working-answered : {t : State} {s o : List Float} → c ≡ 0 → t ≡ withHeld st held.Damped → s ≡ lay (dampedRoom lowered (load (st .n) store))
-      → o ≡ scatter (take (st .n) order) (dampedStep lowered) out → ended (answered tt) t s o ≡ dampedWorking st diag order store out
-  unfolding dampedWorking
-  damped-working-answered z h f g = same-ended (answered tt) h f g ∙ call-worked _ (λ k. ended (refused k) st store out) _ (sym e ∙ z)
 
 module _ (st : State) (diag : List Float) (order : List ℕ) (store out : List Float) {c : ℕ}
     (e : c ≡ firstOf (solveTests st (length store) order (min (length diag) (length out)) ++ (finiteTest st diag ∷ []))) where

@@ -15,7 +15,7 @@ use Rattle.factor.specs.Held.{heldSolved, heldProduct}
 use Rattle.factor.specs.Gradient.{gradient as measure, jxNorm}
 use Rattle.factor.specs.Calls.{written, dampedStep, finiteOr8}
 use Rattle.factor.specs.Rescale.{rescaled}
-use Rattle.factor.specs.History.{number, count, truth, scaled, Call, zero-solve, zero-working, damped-solve, damped-working, held-solve, held-solve-working, held-product, held-product-working, gradient, jx-norm, scaling, determined, non-singular, isSolve, isHeld}
+use Rattle.factor.specs.History.{number, count, truth, scaled, Call, zero-solve, damped-solve, held-solve, held-product, gradient, jx-norm, scaling, determined, non-singular, isSolve, isHeld}
 use Rattle.factor.specs.declared.state.Held.{Held}
 use Rattle.factor.specs.declared.state.Held.the-variants as held
 use Rattle.factor.specs.declared.state.State.{State}
@@ -93,23 +93,15 @@ module _ (st : State) (order : List ℕ) (r t : Room) (a : Alike r t) where
   unfolding effect
   effect-reads (zero-solve out) h =
       both SameTold _ _ _ _ _ _ zero-same (record { answer = refl; held = refl; out = zero-out out }) (record { answer = refl; held = refl; out = refl })
-  effect-reads (zero-working out) h = record { answer = refl; held = refl; out = zero-out out }
   effect-reads (damped-solve diag out) h =
       both SameTold _ _ _ _ _ _ (ap (λ (l : Rows). dampedStep l) (damped-same diag)) (record { answer = refl; held = refl; out = damped-out diag out })
       (record { answer = refl; held = refl; out = refl })
-  effect-reads (damped-working diag out) h = record { answer = refl; held = refl; out = damped-out diag out }
   effect-reads (held-solve rhs out) h =
       let e = solved-same (st .held) (gather (take (st .n) order) rhs) r t a (h refl) in
       both SameTold _ _ _ _ _ _ e (record { answer = refl; held = refl; out = ap (λ (x : List Float). written x out) e }) (record { answer = refl; held = refl; out = refl })
-  effect-reads (held-solve-working rhs out) h =
-      let e = solved-same (st .held) (gather (take (st .n) order) rhs) r t a (h refl) in
-      record { answer = refl; held = refl; out = ap (λ (x : List Float). written x out) e }
   effect-reads (held-product out) h =
       let e = product-same (st .held) r t a (h refl) in
       both SameTold _ _ _ _ _ _ e (record { answer = refl; held = refl; out = ap (λ (x : List Float). written x out) e }) (record { answer = refl; held = refl; out = refl })
-  effect-reads (held-product-working out) h =
-      let e = product-same (st .held) r t a (h refl) in
-      record { answer = refl; held = refl; out = ap (λ (x : List Float). written x out) e }
   effect-reads (gradient bnorm) h =
       let e : measure (gather (take (st .n) order) (r .norms)) bnorm (r .upper) (r .qtb) ≡ measure (gather (take (st .n) order) (t .norms)) bnorm (t .upper) (t .qtb) =
       rw (a .norms, a .upper, a .qtb) in
@@ -143,15 +135,11 @@ module _ (st : State) (order : List ℕ) (r t : Room) (a : Alike r t) where
     unfolding effect
     effect-settles (zero-solve out) h =
         both SameLeft _ _ _ _ _ _ zero-same (record { below = below-cleared; ldiag = ldiag-cleared }) (record { below = below-cleared; ldiag = ldiag-cleared })
-    effect-settles (zero-working out) h = record { below = below-cleared; ldiag = ldiag-cleared }
     effect-settles (damped-solve diag out) h =
         both SameLeft _ _ _ _ _ _ (ap (λ (l : Rows). dampedStep l) (damped-same diag)) (record { below = damped-left diag .0; ldiag = damped-left diag .1 })
         (record { below = below-cleared; ldiag = ldiag-cleared })
-    effect-settles (damped-working diag out) h = record { below = damped-left diag .0; ldiag = damped-left diag .1 }
     effect-settles (held-solve rhs out) h = absurd (true≢false (sym h))
-    effect-settles (held-solve-working rhs out) h = absurd (true≢false (sym h))
     effect-settles (held-product out) h = absurd (true≢false (sym h))
-    effect-settles (held-product-working out) h = absurd (true≢false (sym h))
     effect-settles (gradient bnorm) h = absurd (true≢false (sym h))
     effect-settles (jx-norm x) h = absurd (true≢false (sym h))
     effect-settles (scaling md diag x bound) h = absurd (true≢false (sym h))
@@ -162,13 +150,9 @@ module _ (st : State) (order : List ℕ) (r t : Room) (a : Alike r t) where
 pub effect-rests : (st : State) (order : List ℕ) (r : Room) (c : Call) → isSolve c ≡ false → Rests st r (effect c st order r)
 unfolding effect
 effect-rests st order r (zero-solve out) h = absurd (true≢false h)
-effect-rests st order r (zero-working out) h = absurd (true≢false h)
 effect-rests st order r (damped-solve diag out) h = absurd (true≢false h)
-effect-rests st order r (damped-working diag out) h = absurd (true≢false h)
 effect-rests st order r (held-solve rhs out) h = either (Rests st r) _ _ _ (record { held = refl; below = refl; ldiag = refl }) (record { held = refl; below = refl; ldiag = refl })
-effect-rests st order r (held-solve-working rhs out) h = record { held = refl; below = refl; ldiag = refl }
 effect-rests st order r (held-product out) h = either (Rests st r) _ _ _ (record { held = refl; below = refl; ldiag = refl }) (record { held = refl; below = refl; ldiag = refl })
-effect-rests st order r (held-product-working out) h = record { held = refl; below = refl; ldiag = refl }
 effect-rests st order r (gradient bnorm) h = record { held = refl; below = refl; ldiag = refl }
 effect-rests st order r (jx-norm x) h = record { held = refl; below = refl; ldiag = refl }
 effect-rests st order r (scaling md diag x bound) h = record { held = refl; below = refl; ldiag = refl }

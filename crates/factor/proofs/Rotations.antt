@@ -1,6 +1,6 @@
 -- One rotation, and what is ahead of the others, as laws. Assumes nothing.
 use mathlib.Core.Path.{_≡_, refl, sym, ap, _∙_}
-use mathlib.Core.Bool.{true, false}
+use mathlib.Core.Bool.{Bool, true, false}
 use mathlib.Core.List.{List, [], _∷_, _++_, append-nil}
 use Prim.Native.Nat.{ℕ, zero, suc, _+_, _-_, _<_, _≤_}
 use native.Mathlib.Nat.{not-suc-le-zero, le-of-suc-le-suc, le-refl}
@@ -15,14 +15,14 @@ use Rattle.factor.specs.Edges.{upTo}
 use Rattle.factor.specs.declared.eliminate.Rotation.{Rotation}
 
 -- ---- the rotation, by its test
-module _ (r l t c : Float) {a b : Float} (ea : a ≡ absOf r) (eb : b ≡ absOf l) (ec : c ≡ lesser t) where
-  pub by-cot : lt a b ≡ true → t ≡ div binary64 r l → _≡_ {A = Rotation} (record { sin = c; cos = mul binary64 c t }) (givens r l)
+module _ (r l t c : Float) {b : Float} {q : Bool} (eb : b ≡ absOf l) (eq : q ≡ lt (absOf r) b) (ec : c ≡ lesser t) where
+  pub by-cot : q ≡ true → t ≡ div binary64 r l → _≡_ {A = Rotation} (record { sin = c; cos = mul binary64 c t }) (givens r l)
   unfolding givens byCot
-  by-cot w e = let v : lt (absOf r) (absOf l) ≡ true = rw (← ea, ← eb) w in rw (ec, e, v, givens)
+  by-cot w e = let v : lt (absOf r) (absOf l) ≡ true = ap (lt (absOf r)) (sym eb) ∙ sym eq ∙ w in rw (ec, e, v, givens)
 
-  pub by-tan : lt a b ≡ false → t ≡ div binary64 l r → _≡_ {A = Rotation} (record { sin = mul binary64 c t; cos = c }) (givens r l)
+  pub by-tan : q ≡ false → t ≡ div binary64 l r → _≡_ {A = Rotation} (record { sin = mul binary64 c t; cos = c }) (givens r l)
   unfolding givens byTan
-  by-tan w e = let v : lt (absOf r) (absOf l) ≡ false = rw (← ea, ← eb) w in rw (ec, e, v, givens)
+  by-tan w e = let v : lt (absOf r) (absOf l) ≡ false = ap (lt (absOf r)) (sym eb) ∙ sym eq ∙ w in rw (ec, e, v, givens)
 
 -- ---- two rows turned
 pub turned-length : (g : Rotation) (xs ys : List Float) → length xs ≡ length ys → length (turnedAll g xs ys) ≡ length xs

@@ -66,3 +66,11 @@ module _ {A : Type 0} where
         let q : p ≡ e + (p - e) = omega arith in
         let l : length (take a s ++ y) ≡ e = let z = head-long in length-append (take a s) y ∙ omega arith in
         rw (q, ← drop-drop (p - e) e (splice a e y s), ← append-assoc (take a s) y (drop e s), drop-at (take a s ++ y) (drop e s) e l) (drop-drop (p - e) e s)
+
+  -- two parts side by side: put at once is put one after the other
+  pub splice-twice : (a b e : ℕ) (y z s : List A) → a + length y ≡ b → b + length z ≡ e → e ≤ length s → splice a e (y ++ z) s ≡ splice b e z (splice a b y s)
+  splice-twice a b e y z s h k f =
+      let w : length (take a s) ≡ a = length-take-le a s (omega arith) in
+      let l : length (take a s ++ y) ≡ b = length-append (take a s) y ∙ omega arith in
+      let front : take b (splice a b y s) ≡ take a s ++ y = ap (λ (x : List A). take b x) (sym (append-assoc (take a s) y (drop b s))) ∙ take-at (take a s ++ y) (drop b s) b l in
+      sym (rw (front, splice-drop a b y s h (omega arith) e (omega arith), append-assoc (take a s) y (z ++ drop e s), append-assoc y z (drop e s)))

@@ -10,7 +10,7 @@ use lib.Ieee.{Float}
 use borrow.Author.Tests.{ltb-true, ltb-false, lt-ltb, le-ltb}
 use Rattle.factor.specs.Room.{Room, load}
 use Rattle.factor.specs.Tests.{Test, firstOf}
-use Rattle.factor.specs.History.{Outcome, Call, zero-solve, zero-working, damped-solve, damped-working, held-solve, held-solve-working, held-product, held-product-working, gradient, jx-norm, scaling, determined, non-singular, perform}
+use Rattle.factor.specs.History.{Outcome, Call, zero-solve, damped-solve, held-solve, held-product, gradient, jx-norm, scaling, determined, non-singular, perform}
 use Rattle.factor.specs.declared.state.State.{State}
 use Rattle.factor.specs.declared.scaling.Mode.the-variants as mode
 use Rattle.factor.proofs.Effects.{Effect, effect, effected, refusal, shortestOf, furtherOf, testsOf, testedOf, perform-is}
@@ -27,13 +27,9 @@ module _ (st : State) (o p : List ℕ) (lo : st .n ≤ length o) (lp : st .n ≤
   shortest-same : (c : Call) → ltb (shortestOf c st o) (st .n) ≡ ltb (shortestOf c st p) (st .n)
   unfolding shortestOf
   shortest-same (zero-solve out) = least-same (st .n) (length o) (length p) (length out) lo lp
-  shortest-same (zero-working out) = least-same (st .n) (length o) (length p) (length out) lo lp
   shortest-same (damped-solve diag out) = least-same (st .n) (length o) (length p) (min (length diag) (length out)) lo lp
-  shortest-same (damped-working diag out) = least-same (st .n) (length o) (length p) (min (length diag) (length out)) lo lp
   shortest-same (held-solve rhs out) = least-same (st .n) (length o) (length p) (min (length rhs) (length out)) lo lp
-  shortest-same (held-solve-working rhs out) = least-same (st .n) (length o) (length p) (min (length rhs) (length out)) lo lp
   shortest-same (held-product out) = refl
-  shortest-same (held-product-working out) = refl
   shortest-same (gradient bnorm) = le-ltb (length o) (st .n) lo ∙ sym (le-ltb (length p) (st .n) lp)
   shortest-same (jx-norm x) = least-same (st .n) (length o) (length p) (length x) lo lp
   shortest-same (scaling mode.FirstScaled diag x bound) = refl
@@ -46,13 +42,9 @@ module _ (st : State) (o p : List ℕ) (lo : st .n ≤ length o) (lp : st .n ≤
   further-same : (c : Call) → furtherOf c st o ≡ furtherOf c st p
   unfolding furtherOf
   further-same (zero-solve out) = rw same
-  further-same (zero-working out) = rw same
   further-same (damped-solve diag out) = rw same
-  further-same (damped-working diag out) = rw same
   further-same (held-solve rhs out) = rw same
-  further-same (held-solve-working rhs out) = rw same
   further-same (held-product out) = refl
-  further-same (held-product-working out) = refl
   further-same (gradient bnorm) = rw same
   further-same (jx-norm x) = rw same
   further-same (scaling mode.FirstScaled diag x bound) = refl
@@ -65,13 +57,9 @@ module _ (st : State) (o p : List ℕ) (lo : st .n ≤ length o) (lp : st .n ≤
   effect-same : (c : Call) (r : Room) → effect c st o r ≡ effect c st p r
   unfolding effect
   effect-same (zero-solve out) r = rw same
-  effect-same (zero-working out) r = rw same
   effect-same (damped-solve diag out) r = rw same
-  effect-same (damped-working diag out) r = rw same
   effect-same (held-solve rhs out) r = rw same
-  effect-same (held-solve-working rhs out) r = rw same
   effect-same (held-product out) r = refl
-  effect-same (held-product-working out) r = refl
   effect-same (gradient bnorm) r = rw same
   effect-same (jx-norm x) r = rw same
   effect-same (scaling md diag x bound) r = refl

@@ -24,7 +24,7 @@ use Rattle.factor.specs.Gradient.{gradient as measure, measures, largest
 use Rattle.factor.specs.Scaling.{firstScaling, laterScaling, startBy, usable}
 use Rattle.factor.specs.Calls.{dampedStep, finiteOr8}
 use Rattle.factor.specs.Rescale.{Scaled, orRefused, rescaled}
-use Rattle.factor.specs.History.{replyNumber, numberOf, Outcome, Call, zero-solve, zero-working, damped-solve, damped-working, held-solve, held-solve-working, held-product, held-product-working, gradient, jx-norm, scaling, determined, non-singular, perform, run}
+use Rattle.factor.specs.History.{replyNumber, numberOf, Outcome, Call, zero-solve, damped-solve, held-solve, held-product, gradient, jx-norm, scaling, determined, non-singular, perform, run}
 use Rattle.factor.specs.declared.state.State.{State}
 use Rattle.factor.specs.declared.scaling.Mode.the-variants as mode
 use Rattle.factor.proofs.Refusals.{NoneHold, RefusedBy, refused-iff, passed-iff}
@@ -45,16 +45,12 @@ anyNan (x ∷ xs) = isNan x || anyNan xs
 abbrev pub measured : State → List ℕ → Float → Room → List Float
 measured st order bnorm r = measures (dividedBy bnorm (r .qtb)) (r .upper) (gather (take (st .n) order) (r .norms))
 
--- an answer is not finite; the workings, `determined` and `non-singular` have no such test
+-- an answer is not finite; `determined` and `non-singular` have no such test
 unfoldable pub breaks : Call → State → List ℕ → Room → Bool
 breaks (zero-solve out) st order r = not (allFinite (zeroX st r))
-breaks (zero-working out) st order r = false
 breaks (damped-solve diag out) st order r = not (allFinite (dampedStep (dampedL st order diag r)))
-breaks (damped-working diag out) st order r = false
 breaks (held-solve rhs out) st order r = not (allFinite (heldSolved (st .held) (gather (take (st .n) order) rhs) r))
-breaks (held-solve-working rhs out) st order r = false
 breaks (held-product out) st order r = not (allFinite (heldProduct (st .held) r))
-breaks (held-product-working out) st order r = false
 breaks (gradient bnorm) st order r = anyNan (measured st order bnorm r) || not (isFinite (topOf plusZero (measured st order bnorm r)))
 breaks (jx-norm x) st order r = not (isFinite (jxNorm (gather (take (st .n) order) x) (r .upper)))
 breaks (scaling mode.FirstScaled diag x bound) st order r =
@@ -107,13 +103,9 @@ rescaled-number false a new old = refl
 pub effect-number : (c : Call) (st : State) (order : List ℕ) (r : Room) → numberOf (effect c st order r .answer) ≡ eightIf (breaks c st order r)
 unfolding effect breaks measure rescaled
 effect-number (zero-solve out) st order r = finite-number (zeroX st r) _ _ refl refl
-effect-number (zero-working out) st order r = refl
 effect-number (damped-solve diag out) st order r = finite-number (dampedStep (dampedL st order diag r)) _ _ refl refl
-effect-number (damped-working diag out) st order r = refl
 effect-number (held-solve rhs out) st order r = finite-number (heldSolved (st .held) (gather (take (st .n) order) rhs) r) _ _ refl refl
-effect-number (held-solve-working rhs out) st order r = refl
 effect-number (held-product out) st order r = finite-number (heldProduct (st .held) r) _ _ refl refl
-effect-number (held-product-working out) st order r = refl
 effect-number (gradient bnorm) st order r = largest-number plusZero (measured st order bnorm r)
 effect-number (jx-norm x) st order r = or8-number (jxNorm (gather (take (st .n) order) x) (r .upper))
 effect-number (scaling mode.FirstScaled diag x bound) st order r =
@@ -139,13 +131,9 @@ first-small ((false, k) ∷ ts) h = first-small ts (and-eq-true-iff (ltb k 8) (s
 further-small : (c : Call) (st : State) (order : List ℕ) → small (furtherOf c st order) ≡ true
 unfolding furtherOf
 further-small (zero-solve out) st order = refl
-further-small (zero-working out) st order = refl
 further-small (damped-solve diag out) st order = refl
-further-small (damped-working diag out) st order = refl
 further-small (held-solve rhs out) st order = refl
-further-small (held-solve-working rhs out) st order = refl
 further-small (held-product out) st order = refl
-further-small (held-product-working out) st order = refl
 further-small (gradient bnorm) st order = refl
 further-small (jx-norm x) st order = refl
 further-small (scaling mode.FirstScaled diag x bound) st order = refl
@@ -160,13 +148,9 @@ tested-small c st order s = first-small (testsOf c st (length s) order) (further
 
 refused-number : (c : Call) (k : ℕ) → numberOf (refusedAs c k) ≡ k
 refused-number (zero-solve out) k = refl
-refused-number (zero-working out) k = refl
 refused-number (damped-solve diag out) k = refl
-refused-number (damped-working diag out) k = refl
 refused-number (held-solve rhs out) k = refl
-refused-number (held-solve-working rhs out) k = refl
 refused-number (held-product out) k = refl
-refused-number (held-product-working out) k = refl
 refused-number (gradient bnorm) k = refl
 refused-number (jx-norm x) k = refl
 refused-number (scaling md diag x bound) k = refl

@@ -106,7 +106,7 @@ factorCall m n jacobian residuals store order bench =
     let c = firstOf (factorTests m n jacobian residuals (length store) (length order) (length bench)) in
     elim (eqb c 0) [ true ↦ factorWorked m n jacobian residuals store order bench | false ↦ factored (refused c) empty store order bench ]
 
--- ---- the solves: first as the search needs them, without tests 6 and 8
+-- ---- the solves
 
 abbrev pub solveTests : State → ℕ → List ℕ → ℕ → List Test
 solveTests st store order shortest = roomTests st store (min (length order) shortest) ++ (orderTest st order ∷ [])
@@ -121,15 +121,6 @@ solvedIf st order h r before x out = elim (allFinite x) [
   | true ↦ solvedAs st order h r x out
   | false ↦ ended (refused 8) (withHeld st held.Nothing) (lay (emptied before)) out
 ]
-
-unfoldable pub zeroWorking : State → List ℕ → List Float → List Float → Ended (Unit {0})
-zeroWorking st order store out =
-    let c = firstOf (solveTests st (length store) order (length out)) in
-    let r = load (st .n) store in
-    elim (eqb c 0) [
-      | true ↦ solvedAs st order held.Zero (emptied r) (zeroSolved (st .m) (r .upper) (r .qtb)) out
-      | false ↦ ended (refused c) st store out
-    ]
 
 unfoldable pub zeroCall : State → List ℕ → List Float → List Float → Ended (Unit {0})
 zeroCall st order store out =
@@ -147,16 +138,6 @@ dampedRoom l r = leaving (tails (l .0)) (heads (l .0)) r
 abbrev pub dampedStep : Rows → List Float
 dampedStep l = dampedSolved (heads (l .0)) (tails (l .0)) (l .1)
 
-unfoldable pub dampedWorking : State → List Float → List ℕ → List Float → List Float → Ended (Unit {0})
-dampedWorking st diag order store out =
-    let c = firstOf (solveTests st (length store) order (min (length diag) (length out))) in
-    let r = load (st .n) store in
-    let l = damping (gather (take (st .n) order) diag) (r .upper) (r .qtb) in
-    elim (eqb c 0) [
-      | true ↦ solvedAs st order held.Damped (dampedRoom l r) (dampedStep l) out
-      | false ↦ ended (refused c) st store out
-    ]
-
 unfoldable pub dampedCall : State → List Float → List ℕ → List Float → List Float → Ended (Unit {0})
 dampedCall st diag order store out =
     let c = firstOf (solveTests st (length store) order (min (length diag) (length out)) ++ (finiteTest st diag ∷ [])) in
@@ -167,7 +148,7 @@ dampedCall st diag order store out =
       | false ↦ ended (refused c) st store out
     ]
 
--- ---- the held calls, and without tests 6 and 8 for the search
+-- ---- the held calls
 
 -- 8: an answer number is not finite: the store as before, work +0
 abbrev pub restedIf : State → Room → List Float → List Float → Ended (Unit {0})
@@ -176,30 +157,12 @@ restedIf st r x out = elim (allFinite x) [
   | false ↦ ended (refused 8) st (lay (rested r)) out
 ]
 
-unfoldable pub solveWorking : State → List ℕ → List Float → List Float → List Float → Ended (Unit {0})
-solveWorking st order rhs store out =
-    let c = firstOf (solveTests st (length store) order (min (length rhs) (length out)) ++ (heldTest st ∷ [])) in
-    let r = load (st .n) store in
-    elim (eqb c 0) [
-      | true ↦ ended (answered tt) st (lay (rested r)) (written (heldSolved (st .held) (gather (take (st .n) order) rhs) r) out)
-      | false ↦ ended (refused c) st store out
-    ]
-
 unfoldable pub solveCall : State → List ℕ → List Float → List Float → List Float → Ended (Unit {0})
 solveCall st order rhs store out =
     let c = firstOf (solveTests st (length store) order (min (length rhs) (length out)) ++ (heldTest st ∷ finiteTest st rhs ∷ [])) in
     let r = load (st .n) store in
     elim (eqb c 0) [
       | true ↦ restedIf st r (heldSolved (st .held) (gather (take (st .n) order) rhs) r) out
-      | false ↦ ended (refused c) st store out
-    ]
-
-unfoldable pub mulWorking : State → List Float → List Float → Ended (Unit {0})
-mulWorking st store out =
-    let c = firstOf (roomTests st (length store) (length out) ++ (heldTest st ∷ [])) in
-    let r = load (st .n) store in
-    elim (eqb c 0) [
-      | true ↦ ended (answered tt) st (lay (rested r)) (written (heldProduct (st .held) r) out)
       | false ↦ ended (refused c) st store out
     ]
 

@@ -1,11 +1,11 @@
 -- Demand 3: the calls that take a state, as one type, and what each does by the very definition that its contract cites.
--- The workings that are exported for the search are among them. The order list is lent to every call; some do not look at it.
+-- What a search asks of `pivot_order` between its tests and its end is not: nobody sees the room then. The order list is lent to every call; some do not look at it.
 use Prim.Native.Nat.{ℕ}
 use mathlib.Core.Bool.{Bool, true, false, cond}
 use mathlib.Core.List.{List, [], _∷_}
 use lib.Ieee.{Float}
 use Rattle.leaves.specs.Reply.{Reply, answered, refused}
-use Rattle.factor.specs.Calls.{Told, Ended, zeroWorking, zeroCall, dampedWorking, dampedCall, solveWorking, solveCall, mulWorking, mulCall, gradientCall, jxCall, determinedCall, nonSingularCall}
+use Rattle.factor.specs.Calls.{Told, Ended, zeroCall, dampedCall, solveCall, mulCall, gradientCall, jxCall, determinedCall, nonSingularCall}
 use Rattle.factor.specs.Rescale.{Scaled, scalingCall}
 use Rattle.factor.specs.declared.state.State.{State}
 use Rattle.factor.specs.declared.scaling.Mode.{Mode}
@@ -46,13 +46,9 @@ outcome a st s o = record { answer = a; state = st; store = s; out = o }
 -- a call with its own arguments: diagonal, right side, x, and the lent output last; in `scaling` the lent scaling is the output
 pub data Call : Type 0 where
   zero-solve : (out : List Float) → Call
-  zero-working : (out : List Float) → Call
   damped-solve : (diag out : List Float) → Call
-  damped-working : (diag out : List Float) → Call
   held-solve : (rhs out : List Float) → Call
-  held-solve-working : (rhs out : List Float) → Call
   held-product : (out : List Float) → Call
-  held-product-working : (out : List Float) → Call
   gradient : (bnorm : Float) → Call
   jx-norm : (x : List Float) → Call
   scaling : (md : Mode) (diag x : List Float) (bound : Float) → Call
@@ -68,13 +64,9 @@ ofTold f t = outcome (f (t .reply)) (t .state) (t .store) []
 -- with a state, an order list and a store
 unfoldable pub perform : Call → State → List ℕ → List Float → Outcome
 perform (zero-solve out) st order s = ofEnded done (zeroCall st order s out)
-perform (zero-working out) st order s = ofEnded done (zeroWorking st order s out)
 perform (damped-solve diag out) st order s = ofEnded done (dampedCall st diag order s out)
-perform (damped-working diag out) st order s = ofEnded done (dampedWorking st diag order s out)
 perform (held-solve rhs out) st order s = ofEnded done (solveCall st order rhs s out)
-perform (held-solve-working rhs out) st order s = ofEnded done (solveWorking st order rhs s out)
 perform (held-product out) st order s = ofEnded done (mulCall st s out)
-perform (held-product-working out) st order s = ofEnded done (mulWorking st s out)
 perform (gradient bnorm) st order s = ofTold number (gradientCall st order bnorm s)
 perform (jx-norm x) st order s = ofTold number (jxCall st order x s)
 perform (scaling md diag x bound) st order s = ofEnded scaled (scalingCall st md diag x bound s)
@@ -84,13 +76,9 @@ perform non-singular st order s = ofTold truth (nonSingularCall st s)
 -- the solves: below the diagonal and in l_diag they leave what the held calls read
 abbrev pub isSolve : Call → Bool
 isSolve (zero-solve out) = true
-isSolve (zero-working out) = true
 isSolve (damped-solve diag out) = true
-isSolve (damped-working diag out) = true
 isSolve (held-solve rhs out) = false
-isSolve (held-solve-working rhs out) = false
 isSolve (held-product out) = false
-isSolve (held-product-working out) = false
 isSolve (gradient bnorm) = false
 isSolve (jx-norm x) = false
 isSolve (scaling md diag x bound) = false
@@ -100,13 +88,9 @@ isSolve non-singular = false
 -- and the held calls
 abbrev pub isHeld : Call → Bool
 isHeld (zero-solve out) = false
-isHeld (zero-working out) = false
 isHeld (damped-solve diag out) = false
-isHeld (damped-working diag out) = false
 isHeld (held-solve rhs out) = true
-isHeld (held-solve-working rhs out) = true
 isHeld (held-product out) = true
-isHeld (held-product-working out) = true
 isHeld (gradient bnorm) = false
 isHeld (jx-norm x) = false
 isHeld (scaling md diag x bound) = false

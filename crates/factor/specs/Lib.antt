@@ -12,6 +12,7 @@ pub mod Gradient
 pub mod Scaling
 pub mod Calls
 pub mod Reader
+pub mod PivotOrder
 pub mod AsFactored
 pub mod Rescale
 pub mod History

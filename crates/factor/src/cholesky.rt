@@ -1,14 +1,11 @@
-// Document 01, 'Lent room': the held calls, with what the last solve left in the store. Each is there twice: as a call with all its
-// tests, and as a working without tests 6 and 8, which the search stands on.
+// Document 01, 'Lent room': the held calls, with what the last solve left in the store.
 use crate::check::all_finite;
 use crate::check::check_ordered;
 use crate::check::check_room;
 use crate::check::is_nothing;
 use crate::check::least;
 use crate::holding::mul_finite;
-use crate::holding::mul_out;
 use crate::holding::solve_finite;
-use crate::holding::solve_out;
 use crate::state::State;
 use crate::state::Told;
 use crate::state::room16;
@@ -19,7 +16,7 @@ ghost use Prim.Native.Nat.{min};
 ghost use lib.ListN.{length};
 ghost use Rattle.leaves.specs.Reply.{doneOf};
 ghost use Rattle.factor.specs.Tests.{firstOf, roomTests, heldTest, finiteTest};
-ghost use Rattle.factor.specs.Calls.{ended, solveTests, solveWorking, solveCall, mulWorking, mulCall};
+ghost use Rattle.factor.specs.Calls.{ended, solveTests, solveCall, mulCall};
 
 // ---- the tests
 
@@ -58,33 +55,6 @@ pub(crate) fn check_mul(st: State, store: usize, out: usize) -> u8
 
 // ---- the calls
 
-pub fn solve_working(
-    st: State,
-    store: &mut [f64],
-    order: &[usize],
-    rhs: &[f64],
-    out: &mut [f64],
-) -> Told
-    ensures { λ r. ⌜ ended (doneOf (r .answer)) (r .state) (now (store .exit)) (now (out .exit)) ≡ solveWorking st (now (order .entry)) (now (rhs .entry)) (now (store .entry)) (now (out .entry)) ⌝ }
-{
-    let c = check_held(st, store.len(), order, rhs.len(), out.len());
-    if c != 0 {
-        return Told {
-            answer: Done::Refused(c),
-            state: st,
-        };
-    }
-    let n = st.n;
-    let holds = st.held;
-    let mut d = room16();
-    let mut w = room16();
-    solve_out(holds, n, store, order, rhs, &mut d[..n], &mut w[..n], out);
-    Told {
-        answer: Done::Written,
-        state: st,
-    }
-}
-
 pub fn solve(st: State, store: &mut [f64], order: &[usize], rhs: &[f64], out: &mut [f64]) -> Told
     ensures { λ r. ⌜ ended (doneOf (r .answer)) (r .state) (now (store .exit)) (now (out .exit)) ≡ solveCall st (now (order .entry)) (now (rhs .entry)) (now (store .entry)) (now (out .entry)) ⌝ }
 {
@@ -107,28 +77,6 @@ pub fn solve(st: State, store: &mut [f64], order: &[usize], rhs: &[f64], out: &m
     }
     Told {
         answer: Done::Refused(8),
-        state: st,
-    }
-}
-
-pub fn mul_working(st: State, store: &mut [f64], out: &mut [f64]) -> Told
-    ensures { λ r. ⌜ ended (doneOf (r .answer)) (r .state) (now (store .exit)) (now (out .exit)) ≡ mulWorking st (now (store .entry)) (now (out .entry)) ⌝ }
-{
-    let c = check_mul(st, store.len(), out.len());
-    if c != 0 {
-        return Told {
-            answer: Done::Refused(c),
-            state: st,
-        };
-    }
-    let n = st.n;
-    let holds = st.held;
-    let mut q = room16();
-    let mut d = room16();
-    let mut w = room16();
-    mul_out(holds, n, store, &mut q[..n], &mut d[..n], &mut w[..n], out);
-    Told {
-        answer: Done::Written,
         state: st,
     }
 }

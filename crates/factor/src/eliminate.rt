@@ -2,6 +2,7 @@
 // diagonal begins a new row, which is rotated into these rows one after the other. What is left there is Lᵀ by rows, L by columns.
 use crate::state::room16;
 use leaves::number::abs;
+use leaves::number::abs_below;
 use leaves::root::sqrt_quarter;
 ghost use mathlib.Core.Path.{_≡_};
 ghost use Prim.Native.Nat.{_+_, _*_, _-_, _<_, _≤_};
@@ -32,7 +33,7 @@ fn lesser_of(t: f64) -> f64
 fn givens_of(r: f64, l: f64) -> Rotation
     ensures { λ g. ⌜ g ≡ givens r l ⌝ }
 {
-    let cot = abs(r) < abs(l);
+    let cot = abs_below(r, abs(l));
     let t = if cot { r / l } else { l / r };
     let c = lesser_of(t);
     if cot {

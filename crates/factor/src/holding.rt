@@ -105,29 +105,6 @@ fn solve_step(
     rest_room(store, n);
 }
 
-pub(crate) fn solve_out(
-    holds: Held,
-    n: usize,
-    store: &mut [f64],
-    order: &[usize],
-    rhs: &[f64],
-    d: &mut [f64],
-    w: &mut [f64],
-    out: &mut [f64],
-)
-    requires { ⌜ (isEmpty holds ≡ false) × (isNothing holds ≡ false) ⌝ }
-    requires { ⌜ Sized n (now store) ⌝ }
-    requires { ⌜ n ≤ length (now order) ⌝ }
-    requires { ⌜ ((k : ℕ) → k < n → getD (now order) k 0 < n) ⌝ }
-    requires { ⌜ (n ≤ length (now rhs)) × (n ≤ length (now out)) ⌝ }
-    requires { ⌜ (length (now d) ≡ n) × (length (now w) ≡ n) ⌝ }
-    ensures { λ _. ⌜ now (store .exit) ≡ lay (rested (load n (now (store .entry)))) ⌝ }
-    ensures { λ _. ⌜ now (out .exit) ≡ written (heldSolved holds (gather (take n (now (order .entry))) (now (rhs .entry))) (load n (now (store .entry)))) (now (out .entry)) ⌝ }
-{
-    solve_step(holds, n, store, order, rhs, d, w);
-    write_first(w, out);
-}
-
 pub(crate) fn solve_finite(
     holds: Held,
     n: usize,
@@ -206,26 +183,6 @@ fn mul_step(holds: Held, n: usize, store: &mut [f64], q: &mut [f64], d: &mut [f6
 {
     mul_held(holds, store, n, q, d, w);
     rest_room(store, n);
-}
-
-pub(crate) fn mul_out(
-    holds: Held,
-    n: usize,
-    store: &mut [f64],
-    q: &mut [f64],
-    d: &mut [f64],
-    w: &mut [f64],
-    out: &mut [f64],
-)
-    requires { ⌜ (isEmpty holds ≡ false) × (isNothing holds ≡ false) ⌝ }
-    requires { ⌜ Sized n (now store) ⌝ }
-    requires { ⌜ (length (now q) ≡ n) × (length (now d) ≡ n) × (length (now w) ≡ n) ⌝ }
-    requires { ⌜ n ≤ length (now out) ⌝ }
-    ensures { λ _. ⌜ now (store .exit) ≡ lay (rested (load n (now (store .entry)))) ⌝ }
-    ensures { λ _. ⌜ now (out .exit) ≡ written (heldProduct holds (load n (now (store .entry)))) (now (out .entry)) ⌝ }
-{
-    mul_step(holds, n, store, q, d, w);
-    write_first(w, out);
 }
 
 pub(crate) fn mul_finite(

@@ -1,5 +1,5 @@
-// Document 01, modules 4 and 5: the solves. Each is there twice: as a call with all its tests, and as a working without
-// tests 6 and 8, which the search stands on: in a search a number that is not finite may go on where a solve refuses it.
+// Document 01, modules 4 and 5: the solves. What they work out, before it is tested for finite numbers and written, is also what a search
+// asks for (`pivot_order`): there a number that is not finite may go on where a solve refuses it.
 use crate::check::all_finite;
 use crate::check::check_ordered;
 use crate::check::least;
@@ -27,7 +27,7 @@ ghost use Rattle.factor.specs.Tests.{firstOf, allFinite, finiteTest};
 ghost use Rattle.factor.specs.Room.{Sized, load, lay, emptied};
 ghost use Rattle.factor.specs.Solve.{zeroSolved, gather, scatter};
 ghost use Rattle.factor.specs.Eliminate.{damping};
-ghost use Rattle.factor.specs.Calls.{ended, solveTests, dampedRoom, dampedStep, zeroWorking, zeroCall, dampedWorking, dampedCall};
+ghost use Rattle.factor.specs.Calls.{ended, solveTests, dampedRoom, dampedStep, zeroCall, dampedCall};
 
 // The zero solve in pivot order, and the room that it leaves.
 fn zero_step(m: usize, n: usize, store: &mut [f64], w: &mut [f64])
@@ -42,20 +42,7 @@ fn zero_step(m: usize, n: usize, store: &mut [f64], w: &mut [f64])
     empty_room(store, n);
 }
 
-// The zero solve, each entry at its column.
-fn zero_into(m: usize, n: usize, store: &mut [f64], order: &[usize], w: &mut [f64], out: &mut [f64])
-    requires { ⌜ Sized n (now store) ⌝ }
-    requires { ⌜ (length (now w) ≡ n) × (n ≤ length (now out)) ⌝ }
-    requires { ⌜ n ≤ length (now order) ⌝ }
-    requires { ⌜ ((k : ℕ) → k < n → getD (now order) k 0 < n) ⌝ }
-    ensures { λ _. ⌜ now (store .exit) ≡ lay (emptied (load n (now (store .entry)))) ⌝ }
-    ensures { λ _. ⌜ now (out .exit) ≡ scatter (take n (now (order .entry))) (zeroSolved m (load n (now (store .entry)) .upper) (load n (now (store .entry)) .qtb)) (now (out .entry)) ⌝ }
-{
-    zero_step(m, n, store, w);
-    scatter_into(order, n, w, out);
-}
-
-// The same where each entry is finite; else nothing is written.
+// The zero solve, each entry at its column, where each is finite; else nothing is written.
 fn zero_finite(
     m: usize,
     n: usize,
@@ -78,26 +65,6 @@ fn zero_finite(
     }
     scatter_into(order, n, w, out);
     true
-}
-
-pub fn zero_working(st: State, store: &mut [f64], order: &[usize], out: &mut [f64]) -> Told
-    ensures { λ r. ⌜ ended (doneOf (r .answer)) (r .state) (now (store .exit)) (now (out .exit)) ≡ zeroWorking st (now (order .entry)) (now (store .entry)) (now (out .entry)) ⌝ }
-{
-    let c = check_ordered(st, store.len(), out.len(), order);
-    if c != 0 {
-        return Told {
-            answer: Done::Refused(c),
-            state: st,
-        };
-    }
-    let m = st.m;
-    let n = st.n;
-    let mut w = room16();
-    zero_into(m, n, store, order, &mut w[..n], out);
-    Told {
-        answer: Done::Written,
-        state: with_held(st, Held::Zero),
-    }
 }
 
 pub fn solve_with_zero_diagonal(
@@ -146,31 +113,7 @@ fn damped_step(n: usize, store: &mut [f64], ds: &[f64], ldiag: &mut [f64], w: &m
     put_damped(store, n, ldiag);
 }
 
-// The damped solve, each entry at its column.
-fn damped_into(
-    n: usize,
-    store: &mut [f64],
-    order: &[usize],
-    diag: &[f64],
-    ds: &mut [f64],
-    ldiag: &mut [f64],
-    w: &mut [f64],
-    out: &mut [f64],
-)
-    requires { ⌜ Sized n (now store) ⌝ }
-    requires { ⌜ (length (now w) ≡ n) × (n ≤ length (now out)) ⌝ }
-    requires { ⌜ n ≤ length (now order) ⌝ }
-    requires { ⌜ ((k : ℕ) → k < n → getD (now order) k 0 < n) ⌝ }
-    requires { ⌜ (length (now ds) ≡ n) × (length (now ldiag) ≡ n) × (n ≤ length (now diag)) ⌝ }
-    ensures { λ _. ⌜ now (store .exit) ≡ lay (dampedRoom (damping (gather (take n (now (order .entry))) (now (diag .entry))) (load n (now (store .entry)) .upper) (load n (now (store .entry)) .qtb)) (load n (now (store .entry)))) ⌝ }
-    ensures { λ _. ⌜ now (out .exit) ≡ scatter (take n (now (order .entry))) (dampedStep (damping (gather (take n (now (order .entry))) (now (diag .entry))) (load n (now (store .entry)) .upper) (load n (now (store .entry)) .qtb))) (now (out .entry)) ⌝ }
-{
-    gather_into(order, n, diag, ds);
-    damped_step(n, store, ds, ldiag, w);
-    scatter_into(order, n, w, out);
-}
-
-// The same where each entry is finite; else the room is emptied and nothing is written.
+// The damped solve, each entry at its column, where each is finite; else the room is emptied and nothing is written.
 fn damped_finite(
     n: usize,
     store: &mut [f64],
@@ -198,42 +141,6 @@ fn damped_finite(
     }
     scatter_into(order, n, w, out);
     true
-}
-
-pub fn damped_working(
-    st: State,
-    store: &mut [f64],
-    order: &[usize],
-    diag: &[f64],
-    out: &mut [f64],
-) -> Told
-    ensures { λ r. ⌜ ended (doneOf (r .answer)) (r .state) (now (store .exit)) (now (out .exit)) ≡ dampedWorking st (now (diag .entry)) (now (order .entry)) (now (store .entry)) (now (out .entry)) ⌝ }
-{
-    let c = check_ordered(st, store.len(), least(diag.len(), out.len()), order);
-    if c != 0 {
-        return Told {
-            answer: Done::Refused(c),
-            state: st,
-        };
-    }
-    let n = st.n;
-    let mut ds = room16();
-    let mut ldiag = room16();
-    let mut w = room16();
-    damped_into(
-        n,
-        store,
-        order,
-        diag,
-        &mut ds[..n],
-        &mut ldiag[..n],
-        &mut w[..n],
-        out,
-    );
-    Told {
-        answer: Done::Written,
-        state: with_held(st, Held::Damped),
-    }
 }
 
 // 6 for the diagonal comes after the tests of every solve.

@@ -13,6 +13,7 @@ mod laying;
 pub mod least_squares;
 pub mod measures;
 mod pieces;
+pub mod pivot_order;
 mod pivoted_qr;
 pub mod reader;
 mod reflect;

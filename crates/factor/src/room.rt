@@ -42,6 +42,16 @@ pub(crate) fn clear_part(store: &mut [f64], n: usize, k: usize)
     leaves::vector::fill(0.0, &mut store[a..e]);
 }
 
+// l_diag and work stand side by side.
+fn clear_last(store: &mut [f64], n: usize)
+    requires { ⌜ Sized n (now store) ⌝ }
+    ensures { λ _. ⌜ load n (now (store .exit)) ≡ withPart 3 (zeros n) (withPart 2 (zeros n) (load n (now (store .entry)))) ⌝ }
+{
+    let a = part_at(n, n, 2);
+    let e = a + 2 * n;
+    leaves::vector::fill(0.0, &mut store[a..e]);
+}
+
 // What stands below R's diagonal in column k.
 fn clear_column(square: &mut [f64], n: usize, k: usize)
     requires { ⌜ Square n (now square) ⌝ }
@@ -79,8 +89,7 @@ pub(crate) fn empty_room(store: &mut [f64], n: usize)
 {
     let whole = n * n;
     clear_below(&mut store[..whole], n);
-    clear_part(store, n, 2);
-    clear_part(store, n, 3);
+    clear_last(store, n);
 }
 
 // After a damped solve, whose elimination left L below the diagonal: L's diagonal is written, and work is +0.

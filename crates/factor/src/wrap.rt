@@ -13,10 +13,7 @@ pub(crate) fn norm_of(v: &[f64]) -> f64
     requires { ⌜ length (now v) ≤ 128 ⌝ }
     ensures { λ r. ⌜ r ≡ norm (now (v .entry)) ⌝ }
 {
-    match leaves::norm::enorm(v) {
-        Value::Is(s) => s,
-        Value::Refused(_) => 0.0,
-    }
+    leaves::norm::norm(v)
 }
 
 pub(crate) fn dot_of(a: &[f64], b: &[f64]) -> f64

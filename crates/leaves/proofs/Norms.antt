@@ -10,8 +10,8 @@ use lib.Seq.{drop-cons}
 use lib.Ieee.{Float, nan, ne, lt, le, eq, round}
 use lib.Ieee.Compare.{differs-from-itself}
 use Rattle.leaves.specs.Reply.{answered, refused}
-use Rattle.leaves.specs.Number.{absOf}
-use Rattle.leaves.specs.Norm.{rdwarf, agiant, large, add-in, step, accumulate, none, finish, norm, enorm}
+use Rattle.leaves.specs.Number.{plusZero, absOf}
+use Rattle.leaves.specs.Norm.{rdwarf, agiant, large, add-in, step, accumulate, none, finish, norm, enorm, normOr}
 use Rattle.leaves.specs.declared.norm.Sums.{Sums}
 use borrow.Author.Tests.{le-leb, lt-leb}
 
@@ -30,6 +30,14 @@ enorm-refused v h = rw (lt-leb (length v) 128 h, enorm)
 pub enorm-is : (v : List Float) → length v ≤ 128 → answered (norm v) ≡ enorm v
 unfolding enorm
 enorm-is v h = rw (le-leb (length v) 128 h, enorm)
+
+pub norm-or : (xs : List Float) → length xs ≤ 128 → normOr xs ≡ norm xs
+unfolding normOr
+norm-or xs h = rw (le-leb (length xs) 128 h)
+
+pub norm-or-longer : (xs : List Float) → 128 < length xs → normOr xs ≡ plusZero
+unfolding normOr
+norm-or-longer xs h = rw (lt-leb (length xs) 128 h)
 
 pub norm-is : (v : List Float) (g : Float) (t : Sums) → g ≡ agiant (length v) → t ≡ accumulate g none v → finish t ≡ norm v
 unfolding norm

@@ -38,6 +38,12 @@ use Rattle.leaves.proofs.number.is_negative.Kinds as is-negative-kinds
 use Rattle.leaves.proofs.number.is_finite.{signature as is-finite-signature}
 use Rattle.leaves.proofs.number.is_finite.Reads as is-finite
 use Rattle.leaves.proofs.number.is_finite.Kinds as is-finite-kinds
+use Rattle.leaves.proofs.number.abs_below.{signature as abs-below-signature}
+use Rattle.leaves.proofs.number.abs_below.Reads as abs-below
+use Rattle.leaves.proofs.number.abs_below.Kinds as abs-below-kinds
+use Rattle.leaves.proofs.number.abs_within.{signature as abs-within-signature}
+use Rattle.leaves.proofs.number.abs_within.Reads as abs-within
+use Rattle.leaves.proofs.number.abs_within.Kinds as abs-within-kinds
 use Rattle.leaves.proofs.vector.dot.{signature as dot-signature}
 use Rattle.leaves.proofs.vector.dot.Reads as dot
 use Rattle.leaves.proofs.vector.dot.Kinds as dot-kinds
@@ -47,6 +53,9 @@ use Rattle.leaves.proofs.vector.imax.Kinds as imax-kinds
 use Rattle.leaves.proofs.norm.enorm.{signature as enorm-signature}
 use Rattle.leaves.proofs.norm.enorm.Reads as enorm
 use Rattle.leaves.proofs.norm.enorm.Kinds as enorm-kinds
+use Rattle.leaves.proofs.norm.norm.{signature as norm-signature}
+use Rattle.leaves.proofs.norm.norm.Reads as norm
+use Rattle.leaves.proofs.norm.norm.Kinds as norm-kinds
 use Rattle.leaves.proofs.vector.axpy.{signature as axpy-signature}
 use Rattle.leaves.proofs.vector.axpy.Reads as axpy
 use Rattle.leaves.proofs.vector.axpy.Kinds as axpy-kinds
@@ -95,6 +104,14 @@ pub is-finite-one-outcome : (κs : Lfts 0) (a : ArgsD is-finite-signature κs) (
     → is-finite.Post κs a r₁ s₁ → is-finite.Post κs a r₂ s₂ → r₁ ≡ r₂
 is-finite-one-outcome κs a r₁ r₂ s₁ s₂ p q = p ∙ sym q
 
+pub abs-below-one-outcome : (κs : Lfts 0) (a : ArgsD abs-below-signature κs) (r₁ r₂ : Bool) (s₁ s₂ : AtExit (endedOf 0 abs-below-kinds.ps abs-below-kinds.r) κs)
+    → abs-below.Post κs a r₁ s₁ → abs-below.Post κs a r₂ s₂ → r₁ ≡ r₂
+abs-below-one-outcome κs a r₁ r₂ s₁ s₂ p q = p ∙ sym q
+
+pub abs-within-one-outcome : (κs : Lfts 0) (a : ArgsD abs-within-signature κs) (r₁ r₂ : Bool) (s₁ s₂ : AtExit (endedOf 0 abs-within-kinds.ps abs-within-kinds.r) κs)
+    → abs-within.Post κs a r₁ s₁ → abs-within.Post κs a r₂ s₂ → r₁ ≡ r₂
+abs-within-one-outcome κs a r₁ r₂ s₁ s₂ p q = p ∙ sym q
+
 pub dot-one-outcome : (κs : Lfts 2) (a : ArgsD dot-signature κs) (r₁ r₂ : Value) (s₁ s₂ : AtExit (endedOf 2 dot-kinds.ps dot-kinds.r) κs)
     → dot.Post κs a r₁ s₁ → dot.Post κs a r₂ s₂ → r₁ ≡ r₂
 dot-one-outcome κs a r₁ r₂ s₁ s₂ p q = valueOf-same r₁ r₂ (p ∙ sym q)
@@ -106,6 +123,10 @@ imax-one-outcome κs a r₁ r₂ s₁ s₂ p q = placeOf-same r₁ r₂ (p ∙ s
 pub enorm-one-outcome : (κs : Lfts 1) (a : ArgsD enorm-signature κs) (r₁ r₂ : Value) (s₁ s₂ : AtExit (endedOf 1 enorm-kinds.ps enorm-kinds.r) κs)
     → enorm.Post κs a r₁ s₁ → enorm.Post κs a r₂ s₂ → r₁ ≡ r₂
 enorm-one-outcome κs a r₁ r₂ s₁ s₂ p q = valueOf-same r₁ r₂ (p ∙ sym q)
+
+pub norm-one-outcome : (κs : Lfts 1) (a : ArgsD norm-signature κs) (r₁ r₂ : Float) (s₁ s₂ : AtExit (endedOf 1 norm-kinds.ps norm-kinds.r) κs)
+    → norm.Post κs a r₁ s₁ → norm.Post κs a r₂ s₂ → r₁ ≡ r₂
+norm-one-outcome κs a r₁ r₂ s₁ s₂ p q = p ∙ sym q
 
 -- ---- with a lent output
 abbrev Left : Type 0

@@ -87,3 +87,7 @@ norm xs = finish (accumulate (agiant (length xs)) none xs)
 -- Refused 2 over 128 numbers. Empty: +0.
 unfoldable pub enorm : List Float → Reply Float
 enorm xs = cond (leb (length xs) 128) (answered (norm xs)) (refused 2)
+
+-- the same number for callers whose vectors are never longer: +0 where enorm refuses
+unfoldable pub normOr : List Float → Float
+normOr xs = cond (leb (length xs) 128) (norm xs) plusZero

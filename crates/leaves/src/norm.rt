@@ -4,8 +4,10 @@ use crate::number::abs;
 use crate::reply::Value;
 use crate::root::sqrt;
 ghost use mathlib.Core.Path.{_≡_};
+ghost use Prim.Native.Nat.{_≤_};
+ghost use lib.ListN.{length};
 ghost use Rattle.leaves.specs.Reply.{valueOf};
-ghost use Rattle.leaves.specs.Norm.{large as largeOf, small as smallOf, step as stepOf, finish as finishOf, enorm as enormOf};
+ghost use Rattle.leaves.specs.Norm.{large as largeOf, small as smallOf, step as stepOf, finish as finishOf, norm as normOf, enorm as enormOf, normOr};
 
 const RDWARF: f64 = 3.834e-20;
 
@@ -119,14 +121,11 @@ fn finish(t: Sums) -> f64
     t.x3max * sqrt(t.s3)
 }
 
-pub fn enorm(v: &[f64]) -> Value
-    ensures { λ r. ⌜ valueOf r ≡ enormOf (now (v .entry)) ⌝ }
+fn sum_up(v: &[f64]) -> f64
+    requires { ⌜ length (now v) ≤ 128 ⌝ }
+    ensures { λ r. ⌜ r ≡ normOf (now (v .entry)) ⌝ }
 {
-    let n = v.len();
-    if n > 128 {
-        return Value::Refused(2);
-    }
-    let agiant = RGIANT / (n as f64);
+    let agiant = RGIANT / (v.len() as f64);
     let mut t = Sums {
         s1: 0.0,
         s2: 0.0,
@@ -139,5 +138,24 @@ pub fn enorm(v: &[f64]) -> Value
         t = step(agiant, t, v[i]);
         i += 1;
     }
-    Value::Is(finish(t))
+    finish(t)
+}
+
+pub fn enorm(v: &[f64]) -> Value
+    ensures { λ r. ⌜ valueOf r ≡ enormOf (now (v .entry)) ⌝ }
+{
+    if v.len() > 128 {
+        return Value::Refused(2);
+    }
+    Value::Is(sum_up(v))
+}
+
+// The same number as it is, for callers whose vectors are never longer: a reply that carries a number goes through memory.
+pub fn norm(v: &[f64]) -> f64
+    ensures { λ r. ⌜ r ≡ normOr (now (v .entry)) ⌝ }
+{
+    if v.len() > 128 {
+        return 0.0;
+    }
+    sum_up(v)
 }

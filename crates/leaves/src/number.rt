@@ -1,5 +1,6 @@
 // Document 01, 'Leaf rules': the helpers on one or two numbers, and the constants.
 ghost use mathlib.Core.Path.{_≡_};
+ghost use lib.Ieee.{lt, le};
 ghost use Rattle.leaves.specs.Number.{isNegative, absOf, maxOf, minOf, squareOf, isFinite, epsmch as epsmchOf, dwarf as dwarfOf};
 
 // 2^-52.
@@ -62,4 +63,17 @@ pub fn is_finite(x: f64) -> bool
 {
     let top = f64::from_bits(0x7ff0_0000_0000_0000);
     if -top < x { x < top } else { false }
+}
+
+// The absolute value below a, and at most a. Two-sided, because the absolute value's sign of zero costs a division.
+pub fn abs_below(x: f64, a: f64) -> bool
+    ensures { λ r. ⌜ r ≡ lt (absOf x) a ⌝ }
+{
+    if -a < x { x < a } else { false }
+}
+
+pub fn abs_within(x: f64, a: f64) -> bool
+    ensures { λ r. ⌜ r ≡ le (absOf x) a ⌝ }
+{
+    if -a <= x { x <= a } else { false }
 }

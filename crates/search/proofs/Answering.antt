@@ -3,24 +3,18 @@ use mathlib.Core.Path.{_≡_, refl, sym, ap, _∙_}
 use mathlib.Core.Bool.{Bool, true, false}
 use mathlib.Core.List.{List, [], _∷_}
 use Prim.Native.Nat.{ℕ}
-use native.Mathlib.Omega.{arith}
-use lib.ListN.{length, take}
 use lib.Ieee.{Float, binary64, sub, le}
 use Rattle.leaves.specs.Reply.{Reply, answered, refused}
 use Rattle.leaves.specs.Number.{plusZero, isFinite}
-use Rattle.factor.specs.Room.{Room, load, lay, emptied, cleared, zeros}
+use Rattle.factor.specs.Room.{Room}
 use Rattle.factor.specs.declared.state.State.{State}
-use Rattle.factor.proofs.Layouts.{load-lay, emptied-shaped}
-use Rattle.factor.proofs.Damped.{emptied-again}
-use Rattle.search.specs.Problem.{Problem, placed, undampedStep, scaledNorm}
+use Rattle.search.specs.Problem.{Problem, placed, undampedStep, scaledStep, scaledNorm}
 use Rattle.search.specs.Bounds.{lowerBound, gnorm, band}
 use Rattle.search.specs.Run as run
-use Rattle.search.specs.Run.{Run, Next, lower-bound, gradient-norm, trialsFrom, runOf}
+use Rattle.search.specs.Run.{Run, lower-bound, gradient-norm, runOf}
 use Rattle.search.specs.Search.{problemOf, Answer, answer, concluded, answerOf}
-use Rattle.search.specs.Read.{Ready, unanswered, damped}
+use Rattle.search.specs.Read.{unanswered, damped}
 use Rattle.search.proofs.Trying.{any-answer}
-use Rattle.search.proofs.Workings.{shaped}
-use Rattle.search.proofs.Turning.{same-problem}
 
 -- ---- a run from the bounds on is not read before its first trial
 bounds-any : (a b : Answer) (rest : Run) (x y : Bool) → concluded 0 a rest ≡ concluded 0 b rest
@@ -66,24 +60,15 @@ module _ (p : Problem) (initial : Float) {step : List Float} {n : Float} (e : st
             → rest ≡ elim x [ true ↦ elim y [ true ↦ run.stopped run.undamped | false ↦ rest ] | false ↦ run.refused run.undamped-norm ]
         by rest u w = rw (u, w)
 
--- ---- the emptied store holds the same problem
-module _ (st : State) (store : List Float) (order : List ℕ) (e : Ready st store order) (s′ : List Float) (h : s′ ≡ lay (emptied (load (st .n) store))) where
-  pub emptied-loaded : load (st .n) s′ ≡ emptied (load (st .n) store)
-  emptied-loaded = ap (λ (s : List Float). load (st .n) s) h ∙ load-lay (st .n) _ (emptied-shaped (st .n) (load (st .n) store) (shaped st store order e))
+-- ---- neither the undamped step nor what it is scaled to reads the radius
+module _ (st : State) (order : List ℕ) (diag : List Float) (x y : Float) (r : Room) (w : List Float) where
+  pub undamped-asked : placed (problemOf st order diag x r) w ≡ undampedStep (problemOf st order diag x r) → placed (problemOf st order diag y r) w ≡ undampedStep (problemOf st order diag y r)
+  unfolding undampedStep placed
+  undamped-asked h = h
 
-  pub emptied-kept : emptied (load (st .n) s′) ≡ emptied (load (st .n) store)
-  emptied-kept =
-      let r = load (st .n) store in
-      let z = shaped st store order e in
-      ap emptied emptied-loaded ∙ emptied-again (st .n) (cleared (r .below)) (zeros (length (r .ldiag))) r z (emptied-shaped (st .n) r z)
-
-  pub same-asked : (diag : List Float) (radius : Float) → problemOf st order diag radius (load (st .n) s′) ≡ problemOf st order diag radius (load (st .n) store)
-  same-asked diag radius = same-problem st order diag radius (load (st .n) s′) (load (st .n) store) emptied-kept
-
--- the undamped step does not read the radius
-pub undamped-asked : (st : State) (order : List ℕ) (diag : List Float) (x y : Float) (r : Room) {p : List Float} → p ≡ undampedStep (problemOf st order diag x r) → p ≡ undampedStep (problemOf st order diag y r)
-unfolding undampedStep placed
-undamped-asked st order diag x y r h = h
+  pub scaled-asked : {v : List Float} → v ≡ scaledStep (problemOf st order diag x r) (placed (problemOf st order diag x r) w) → v ≡ scaledStep (problemOf st order diag y r) (placed (problemOf st order diag y r) w)
+  unfolding placed
+  scaled-asked h = h
 
 pub band-test : (x radius : Float) {y : Float} {b : Bool} → y ≡ band radius → le x y ≡ b → le x (band radius) ≡ b
 band-test x radius e h = ap (le x) (sym e) ∙ h

@@ -1,5 +1,5 @@
 -- The bounds of a search, from what the held calls tell, and the run that begins with them. Assumes nothing.
-use mathlib.Core.Path.{_≡_, refl, sym, ap, _∙_}
+use mathlib.Core.Path.{_≡_, ap, _∙_}
 use mathlib.Core.Bool.{Bool, true, false, cond}
 use mathlib.Core.List.{List, [], _∷_}
 use Prim.Native.Nat.{ℕ}
@@ -11,48 +11,34 @@ use Rattle.leaves.specs.Reply.{Reply, refused}
 use Rattle.leaves.specs.Number.{plusZero, isFinite}
 use Rattle.leaves.specs.Norm.{norm}
 use Rattle.leaves.specs.Product.{productAll}
-use Rattle.factor.specs.Room.{Room, load, lay, leaving, emptied, rested}
+use Rattle.factor.specs.Room.{load}
 use Rattle.factor.specs.Solve.{gather, nonSingular}
 use Rattle.factor.specs.Held.{heldSolved}
 use Rattle.factor.specs.declared.state.State.{State}
-use Rattle.factor.specs.State.{isNothing}
-use Rattle.factor.specs.declared.state.Held.{Held}
 use Rattle.factor.specs.declared.state.Held.the-variants as held
-use Rattle.factor.proofs.Layouts.{rested-shaped}
-use Rattle.factor.proofs.Damped.{emptied-again}
 use Rattle.search.specs.Problem.{Problem, scaledNorm, direction, undampedSlope, newton}
 use Rattle.search.specs.Bounds.{lowerBound, gnorm, upperBound, firstLambda}
 use Rattle.search.specs.Run as run
 use Rattle.search.specs.Run.{Run, Next, lower-bound, gradient-norm, trialsFrom}
 use Rattle.search.specs.Search.{problemOf, Answer, concluded}
 use Rattle.search.specs.Read.{Ready, turnedBy, damped}
-use Rattle.search.proofs.Workings.{shaped, rested-loaded}
-use Rattle.search.proofs.Turning.{same-problem}
+use Rattle.search.proofs.Workings.{shaped}
 
--- ---- a call that changes work alone
-module _ (st : State) (store : List Float) (order : List ℕ) (e : Ready st store order) where
-  pub rested-kept : (s′ : List Float) → s′ ≡ lay (rested (load (st .n) store)) → emptied (load (st .n) s′) ≡ emptied (load (st .n) store)
-  rested-kept s′ h =
-      let r = load (st .n) store in
-      let z = shaped st store order e in
-      ap emptied (rested-loaded st store order e h) ∙ emptied-again (st .n) (r .below) (r .ldiag) r z (rested-shaped (st .n) r z)
+-- ---- the bounds
+module _ (st : State) (store : List Float) (order : List ℕ) (e : Ready st store order) (diag : List Float) (dl : length diag ≡ st .n) (radius : Float) where
+  abbrev asked : Problem
+  asked = problemOf st order diag radius (load (st .n) store)
 
-  -- ---- the bounds
-  module _ (diag : List Float) (dl : length diag ≡ st .n) (radius : Float) (i : st .held ≡ held.Zero) where
-    abbrev asked : Problem
-    asked = problemOf st order diag radius (load (st .n) store)
+  pub lower-asked : (fp nrm : Float) (step v : List Float) {l : Float} → nrm ≡ norm v → v ≡ productAll step (take (st .n) diag)
+      → l ≡ cond (nonSingular (st .m) (st .n) (load (st .n) store .upper)) (newton fp radius (norm (heldSolved held.Zero (gather (take (st .n) order) (turnedBy nrm v diag)) (load (st .n) store)))) plusZero
+      → l ≡ lowerBound asked step fp
+  unfolding lowerBound undampedSlope direction heldSolved
+  lower-asked fp nrm step v a b k = k ∙ rw (shaped st store order e .upper-wide, a, b, take-all (st .n) diag (omega arith))
 
-    pub lower-asked : (fp nrm : Float) (p v : List Float) {l : Float} → nrm ≡ norm v → v ≡ productAll p (take (st .n) diag)
-        → l ≡ cond (nonSingular (st .m) (st .n) (load (st .n) store .upper)) (newton fp radius (norm (heldSolved (st .held) (gather (take (st .n) order) (turnedBy nrm v diag)) (rested (load (st .n) store))))) plusZero
-        → l ≡ lowerBound asked p fp
-    unfolding lowerBound undampedSlope direction heldSolved leaving
-    lower-asked fp nrm p v a b k = k ∙ rw (i, shaped st store order e .upper-wide, a, b, take-all (st .n) diag (omega arith))
-
-    -- gnorm, in a store that has the same problem
-    pub gnorm-asked : (s′ : List Float) {g : Float} → emptied (load (st .n) s′) ≡ emptied (load (st .n) store)
-        → g ≡ gnorm (problemOf st order diag plusZero (load (st .n) s′)) → g ≡ gnorm asked
-    unfolding gnorm
-    gnorm-asked s′ h k = k ∙ ap gnorm (same-problem st order diag plusZero (load (st .n) s′) (load (st .n) store) h)
+  -- gnorm does not read the radius
+  pub gnorm-asked : {g : Float} → g ≡ gnorm (problemOf st order diag plusZero (load (st .n) store)) → g ≡ gnorm asked
+  unfolding gnorm
+  gnorm-asked h = h
 
 -- ---- the run, by its two tests
 module _ (p : Problem) (initial : Float) (step : List Float) (a : Answer) where
@@ -90,8 +76,5 @@ module _ (p : Problem) (initial : Float) (step : List Float) (a : Answer) where
       → _≡_ {A = Next} (record { lambda = la; lower = l; upper = u; fp = sub binary64 nrm (p .radius) }) first
   first-is x b g d c = rw (c, d, g, b, x)
 
-pub zero-holds : {h : Held} → h ≡ held.Zero → isNothing h ≡ false
-zero-holds e = rw e
-
-pub asked-trials : (p q : Problem) (x y : Next) (a : Answer) {r : Reply Answer} → r ≡ concluded 0 a (trialsFrom p 9 x) → p ≡ q → x ≡ y → r ≡ concluded 0 a (trialsFrom q 9 y)
-asked-trials p q x y a h e f = h ∙ ap (λ (z : Problem). concluded 0 a (trialsFrom z 9 x)) e ∙ ap (λ (z : Next). concluded 0 a (trialsFrom q 9 z)) f
+pub asked-trials : (p : Problem) (x y : Next) (a : Answer) {r : Reply Answer} → r ≡ concluded 0 a (trialsFrom p 9 x) → x ≡ y → r ≡ concluded 0 a (trialsFrom p 9 y)
+asked-trials p x y a h f = h ∙ ap (λ (z : Next). concluded 0 a (trialsFrom p 9 z)) f

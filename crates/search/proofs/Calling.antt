@@ -2,16 +2,18 @@
 use mathlib.Core.Path.{_≡_, refl, sym, ap, _∙_}
 use mathlib.Core.Bool.{Bool, true, false, not, _||_}
 use mathlib.Core.List.{List, [], _∷_, _++_, append-nil, append-assoc}
-use Prim.Native.Nat.{ℕ, _-_, _≤_, _+_, min}
+use Prim.Native.Nat.{ℕ, _-_, _≤_, _<_, _+_, min}
 use native.Mathlib.Omega.{arith}
 use lib.Dec.{ltb, eqb}
-use lib.ListN.{length, take, drop, length-append, take-append-drop, drop-of-length-le}
+use lib.ListN.{length, getD, take, drop, length-append, length-replicate, take-append-drop, drop-of-length-le}
 use lib.Seq.{take-all, drop-drop, take-take, length-take-le}
 use lib.Ieee.{Float}
 use borrow.Author.Tests.{ne-eqb, le-ltb}
 use Rattle.leaves.specs.Reply.{Reply, answered, refused}
+use Rattle.leaves.specs.Number.{plusZero}
 use Rattle.factor.specs.State.{withHeld, storeNeed}
-use Rattle.factor.specs.Room.{load, lay, emptied}
+use Rattle.factor.specs.Room.{Room, load, lay, emptied, zeros}
+use Rattle.factor.specs.Solve.{scatter}
 use Rattle.factor.specs.Tests.{Test, firstOf, finiteTest, finiteNumber, notAbove, below, noneZero}
 use Rattle.factor.specs.Calls.{Ended, ended, written, solveTests}
 use Rattle.factor.specs.declared.state.State.{State}
@@ -20,12 +22,14 @@ use Rattle.factor.proofs.Refusals.{passed-iff, call-refused, call-worked}
 use Rattle.factor.proofs.Passed.{solve-passed}
 use Rattle.factor.proofs.Measured.{earlier-passed}
 use Rattle.factor.proofs.Triangular.{drop-take}
-use Rattle.search.specs.Problem.{Problem}
+use Rattle.search.specs.Problem.{Problem, placed}
 use Rattle.search.specs.Search.{Answer, answerOf, problemOf, searchTests, searched, searchCall}
 use Rattle.search.specs.Read.{Ready, foundOf, withStep}
 use Rattle.search.specs.declared.LMParameter.{LMParameter}
 use Rattle.search.specs.declared.trust_region.Found.{Found}
 use Rattle.search.specs.declared.trust_region.Found.the-variants as found
+use Rattle.search.proofs.Shapes.{scatter-length, scatter-fresh}
+use Rattle.search.proofs.Workings.{order-long, order-below}
 
 -- ---- with the step written, on an output of exactly n numbers
 into-answered : (xs out : List Float) → length xs ≡ length out → xs ≡ written xs out
@@ -38,6 +42,26 @@ step-written st s out a p h e f l = rw (← h, e, f) (ap (λ (z : List Float). e
 pub not-written : (st : State) (s out : List Float) {x : Reply Answer} (k : ℕ) {s′ : List Float} → refused k ≡ x → s′ ≡ s
     → _≡_ {A = Ended LMParameter} (ended (refused k) (withHeld st held.Nothing) s′ out) (searched st s out x)
 not-written st s out k h e = rw (← h, e)
+
+-- ---- the step of an answer, each number at its column
+pub placing : (st : State) (store : List Float) (order : List ℕ) → Ready st store order → (w : List Float) → length w ≡ st .n
+    → (length w ≤ length order) × ((k : ℕ) → k < length w → getD order k 0 < length w)
+placing st store order e w l = (rw l (order-long st store order e), rw l (order-below st store order e))
+
+module _ (st : State) (store : List Float) (order : List ℕ) (e : Ready st store order) (diag : List Float) (radius : Float) (r : Room) (w : List Float) (l : length w ≡ st .n) where
+  abbrev asked : Problem
+  asked = problemOf st order diag radius r
+
+  pub placed-length : length (placed asked w) ≡ st .n
+  unfolding placed
+  placed-length = scatter-length (take (st .n) order) w (zeros (length w)) ∙ length-replicate (length w) plusZero ∙ l
+
+  pub step-placed : (out : List Float) {out′ : List Float} → length out ≡ st .n → out′ ≡ scatter (take (length w) order) w out → out′ ≡ placed asked w
+  unfolding placed
+  step-placed out o h =
+      let p = solve-passed st (length store) order (st .n) e in
+      h ∙ ap (λ (k : ℕ). scatter (take k order) w out) l
+      ∙ scatter-fresh (st .n) order w out (zeros (length w)) (p .permuted) (p .order-long) l o (length-replicate (length w) plusZero ∙ l)
 
 -- ---- an output of which the first n were lent
 surplus : (n k : ℕ) (out : List Float) → k ≤ n → drop k (take n out) ++ drop n out ≡ drop k out

@@ -12,13 +12,15 @@ use borrow.Author.Tests.{ltb-true, ltb-false, lt-ltb, le-ltb, eqb-true, eqb-fals
 use Rattle.leaves.specs.Reply.{Reply, answered, refused}
 use Rattle.leaves.specs.Number.{plusZero}
 use Rattle.factor.specs.State.{isEmpty, storeNeed, withHeld}
-use Rattle.factor.specs.Room.{load, lay, emptied, zeros}
-use Rattle.factor.specs.Calls.{Ended, ended, zeroWorking}
+use Rattle.factor.specs.Room.{Room, load, lay, emptied, zeros}
+use Rattle.factor.specs.Tests.{firstOf, allFinite}
+use Rattle.factor.specs.Solve.{zeroSolved}
+use Rattle.factor.specs.Calls.{Ended, ended, solveTests, solvedAs, zeroCall}
 use Rattle.factor.specs.History as factor
 use Rattle.factor.specs.declared.state.State.{State}
 use Rattle.factor.specs.declared.state.Held.{Held}
 use Rattle.factor.specs.declared.state.Held.the-variants as held
-use Rattle.factor.proofs.Refusals.{NoneHold, passed-iff}
+use Rattle.factor.proofs.Refusals.{NoneHold, passed-iff, call-worked}
 use Rattle.factor.proofs.Passed.{solve-passed}
 use Rattle.factor.proofs.Effects.{shortestOf, furtherOf, testsOf, testedOf}
 use Rattle.factor.proofs.Leavings.{tests-numbered}
@@ -35,7 +37,6 @@ use Rattle.search.specs.History.{Call, search, Outcome, ofBase, ofSearch
 use Rattle.search.specs.History as any
 use Rattle.search.specs.declared.LMParameter.{LMParameter}
 use Rattle.search.proofs.Calling.{ready}
-use Rattle.search.proofs.Workings.{zero-store}
 use Rattle.search.proofs.SearchTable.{tests, tested, asked, given, ends, passed-is, refused-is, answered-otherwise, refused-eight}
 
 -- ---- got past the checks: answered or refused 8
@@ -111,9 +112,24 @@ enough n a x p = by (ltb x n) refl
     by true e = let h = ltb-true x n e in lt-ltb (min a x) n (omega arith)
     by false e = let h = ltb-false x n e in le-ltb (min a x) n (omega arith)
 
--- the zero solve that leaves the same store
+-- the zero solve leaves the same store, whether it is answered or refused 8
 abbrev pub zero : State → factor.Call
-zero st = factor.zero-working (zeros (st .n))
+zero st = factor.zero-solve (zeros (st .n))
+
+abbrev stored : Ended (Unit {0}) → List Float
+stored x = x .store
+
+either-left : (st : State) (order : List ℕ) (r : Room) (xs out : List Float) (b : Bool)
+    → stored (elim b [ true ↦ solvedAs st order held.Zero (emptied r) xs out | false ↦ ended (refused 8) (withHeld st held.Nothing) (lay (emptied r)) out ]) ≡ lay (emptied r)
+either-left st order r xs out true = refl
+either-left st order r xs out false = refl
+
+zero-left : (st : State) (order : List ℕ) (s out : List Float) → firstOf (solveTests st (length s) order (length out)) ≡ 0 → zeroCall st order s out .store ≡ lay (emptied (load (st .n) s))
+unfolding zeroCall
+zero-left st order s out e =
+    let r = load (st .n) s in
+    let xs = zeroSolved (st .m) (r .upper) (r .qtb) in
+    ap stored (sym (call-worked _ (λ (k : ℕ). ended (refused k) st s out) _ e)) ∙ either-left st order r xs out (allFinite xs)
 
 module _ (diag : List Float) (radius lambda : Float) (out : List Float) where
   abbrev this : Call
@@ -155,9 +171,8 @@ module _ (diag : List Float) (radius lambda : Float) (out : List Float) where
     pub as-zero : perform this st order s .store ≡ factor.perform (zero st) st order s .store
     unfolding perform factor.perform
     as-zero =
-        let z = zeroWorking st order s (zeros (st .n)) in
         ap (λ (x : Ended LMParameter). x .store) (passed-is st order diag radius lambda s out e) ∙ searched-store st (left st s) out (answers st order s)
-        ∙ sym (zero-store st s order is-ready (zeros (st .n)) (length-replicate (st .n) plusZero) {a = z .reply} {st′ = z .state} {s′ = z .store} {out′ = z .out} refl)
+        ∙ sym (zero-left st order s (zeros (st .n)) (rw (length-replicate (st .n) plusZero) is-ready))
 
   -- by the two cases
   cases : (P : Outcome → Type 0) (st : State) (order : List ℕ) (s : List Float)

@@ -5,6 +5,7 @@ pub mod Lists
 pub mod Trying
 pub mod Shapes
 pub mod Workings
+pub mod Lowering
 pub mod Turning
 pub mod Bounding
 pub mod Asking

@@ -1,22 +1,20 @@
 -- Vectors place by place. Assumes nothing.
 use mathlib.Core.Path.{_≡_, refl, sym, ap, _∙_}
 use mathlib.Core.List.{List, [], _∷_, map}
-use Prim.Native.Nat.{ℕ, zero, suc, _<_, _≤_}
+use Prim.Native.Nat.{ℕ, zero, suc, _+_, _<_, _≤_}
 use native.Mathlib.Nat.{not-suc-le-zero, le-of-suc-le-suc}
 use native.Mathlib.Omega.{arith}
-use lib.ListN.{length, getD, take, length-map}
+use lib.ListN.{length, getD, take, drop, set}
 use lib.Seq.{getD-take, length-take-le, take-all}
 use lib.Ieee.{Float, nan, binary64, mul, div}
 use Rattle.leaves.specs.Product.{productAll}
-use Rattle.leaves.specs.Reply.{Reply}
-use Rattle.leaves.specs.Vector.{scaleAll, axpyZero}
-use Rattle.leaves.proofs.Folds.{front, scale-is}
-use Rattle.factor.specs.Solve.{gather}
+use Rattle.leaves.proofs.Folds.{front}
+use Rattle.factor.specs.Solve.{gather, scatter}
 use Rattle.factor.specs.Gradient.{dividedBy}
 use Rattle.factor.proofs.Fronts.{front-old, map-at}
 use Rattle.factor.proofs.Scalings.{product-length, product-at}
 use Rattle.factor.proofs.Gradients.{divided-length}
-use Rattle.factor.proofs.Solves.{gather-at, gather-length}
+use Rattle.factor.proofs.Solves.{gather-at, gather-length, scatter-turn}
 use Rattle.search.specs.Bounds.{quotients}
 use Rattle.search.specs.Read.{turnedBy}
 
@@ -24,14 +22,28 @@ use Rattle.search.specs.Read.{turnedBy}
 pub turned-length : (s : Float) (v ds : List Float) → length v ≡ length ds → length (turnedBy s v ds) ≡ length v
 turned-length s v ds h = let l = divided-length s v in product-length (dividedBy s v) ds (l ∙ h) ∙ l
 
-pub turned-turn : (s : Float) (v ds w : List Float) (i : ℕ) → i < length ds → length v ≡ length ds → w ≡ front i (turnedBy s v ds) v
-    → mul binary64 (div binary64 (getD w i nan) s) (getD ds i nan) ≡ getD (turnedBy s v ds) i nan
-turned-turn s v ds w i h k e =
-    let l = turned-length s v ds k in
+pub turned-at : (s : Float) (v ds : List Float) (i : ℕ) → i < length v → i < length ds → mul binary64 (div binary64 (getD v i nan) s) (getD ds i nan) ≡ getD (turnedBy s v ds) i nan
+turned-at s v ds i h k =
     let d = divided-length s v in
-    ap (λ (x : Float). mul binary64 (div binary64 x s) (getD ds i nan)) (front-old (turnedBy s v ds) v w i (omega arith) (omega arith) e)
-    ∙ ap (λ (x : Float). mul binary64 x (getD ds i nan)) (map-at (λ x. div binary64 x s) v i (omega arith))
-    ∙ product-at (dividedBy s v) ds i (omega arith) h
+    ap (λ (x : Float). mul binary64 x (getD ds i nan)) (map-at (λ x. div binary64 x s) v i h) ∙ product-at (dividedBy s v) ds i (omega arith) k
+
+-- ---- in pivot order
+pub gathered-at : (n : ℕ) (order : List ℕ) (xs : List Float) (k : ℕ) → k < n → n ≤ length order → getD xs (getD order k 0) nan ≡ getD (gather (take n order) xs) k nan
+gathered-at n order xs k h long =
+    let t = length-take-le n order long in
+    ap (λ (o : ℕ). getD xs o nan) (sym (getD-take n order k 0 h)) ∙ gather-at (take n order) xs k (omega arith)
+
+pub scaled-place : (n : ℕ) (order : List ℕ) (w ds : List Float) (k : ℕ) → k < n → n ≤ length order → length w ≡ n
+    → mul binary64 (getD w k nan) (getD ds (getD order k 0) nan) ≡ getD (productAll w (gather (take n order) ds)) k nan
+scaled-place n order w ds k h long e =
+    let t = length-take-le n order long in
+    let l = gather-length (take n order) ds in
+    ap (mul binary64 (getD w k nan)) (gathered-at n order ds k h long) ∙ product-at w (gather (take n order) ds) k (omega arith) (omega arith)
+
+pub placed-turn : (os : List ℕ) (xs out : List Float) (k o : ℕ) (x : Float) → k < length os → k < length xs → o ≡ getD os k 0 → x ≡ getD xs k nan
+    → scatter (drop (k + 1) os) (drop (k + 1) xs) (set out o x) ≡ scatter (drop k os) (drop k xs) out
+placed-turn os xs out k o x h g e q =
+    ap (λ (y : Float). scatter (drop (k + 1) os) (drop (k + 1) xs) (set out o y)) q ∙ scatter-turn os xs out k o h g e
 
 -- ---- each place over another vector's
 pub quotients-length : (xs ds : List Float) → length xs ≡ length ds → length (quotients xs ds) ≡ length xs
@@ -61,17 +73,10 @@ module _ (xs : List Float) (order : List ℕ) (ds : List Float) (h : length xs �
       → div binary64 (getD w i nan) (getD ds (getD order i 0) nan) ≡ getD (quotients xs gathered) i nan
   quotient-turn w i k e =
       let l = quotient-length in
-      let t = length-take-le (length xs) order h in
       let z = gathered-length in
-      let o : getD ds (getD order i 0) nan ≡ getD gathered i nan =
-      ap (λ (o : ℕ). getD ds o nan) (sym (getD-take (length xs) order i 0 k)) ∙ gather-at (take (length xs) order) ds i (omega arith) in
       ap (λ (x : Float). div binary64 x (getD ds (getD order i 0) nan)) (front-old (quotients xs gathered) xs w i (omega arith) k e)
-      ∙ ap (λ (d : Float). div binary64 (getD xs i nan) d) o
+      ∙ ap (div binary64 (getD xs i nan)) (gathered-at (length xs) order ds i k h)
       ∙ quotients-at xs gathered i k (omega arith)
-
--- ---- what `axpy_zero` leaves of vectors of one length
-pub scale-leaves : (a : Float) (xs ys zs : List Float) {r : Reply (Unit {0})} → length xs ≡ length ys → (r, zs) ≡ axpyZero a xs ys → zs ≡ scaleAll a xs
-scale-leaves a xs ys zs h e = ap (λ (p : Reply (Unit {0}) × List Float). p .1) (e ∙ sym (scale-is a xs ys (scaleAll a xs) h refl))
 
 -- ---- products with a scaling of exactly n numbers
 pub by-scaling : (n : ℕ) (xs ds : List Float) {v : List Float} → length ds ≡ n → v ≡ productAll xs ds → v ≡ productAll xs (take n ds)

@@ -7,23 +7,22 @@ use native.Mathlib.Nat.{not-suc-le-zero, le-of-suc-le-suc}
 use native.Mathlib.Omega.{arith}
 use lib.ListN.{length, getD, take, drop, set, length-set, length-take, length-drop, length-map, length-append, length-replicate, List·getD-map}
 use lib.Seq.{length-take-le}
-use lib.Ieee.{Float, nan, binary64, div, neg, eq}
+use lib.Ieee.{Float, nan, binary64, mul, div, neg, eq}
 use Rattle.leaves.specs.Number.{plusZero}
+use Rattle.leaves.specs.Product.{productAll}
 use Rattle.leaves.specs.Vector.{axpyAll}
 use Rattle.leaves.specs.Triangle.{solvePlace, solveDown}
 use Rattle.leaves.proofs.Folds.{axpy-length}
 use Rattle.factor.specs.Room.{Room, Shaped, zeros, diagonal}
 use Rattle.factor.specs.Tests.{isPermutation}
-use Rattle.factor.specs.Solve.{scatter, padded, rank, rRank, zeroSolved}
-use Rattle.factor.specs.Eliminate.{Rows, cons, givens, turned, left, turnedAll, leftAll, rotated, started, onward, eliminated, rowsFrom, damping, heads, tails, backward, dampedSolved}
+use Rattle.factor.specs.Solve.{scatter, gather, padded, rank, rRank, zeroSolved}
+use Rattle.factor.specs.Eliminate.{Rows, cons, givens, turned, left, turnedAll, leftAll, rotated, started, onward, eliminated, rowsFrom, damping, tails, backward, dampedSolved}
 use Rattle.factor.specs.Held.{forwardUpper, forwardLower, mulUpper}
-use Rattle.factor.specs.Calls.{dampedRoom}
 use Rattle.factor.proofs.Orders.{permutation-onto, scatter-at}
-use Rattle.factor.proofs.Solves.{rank-most}
+use Rattle.factor.proofs.Solves.{rank-most, gather-length}
+use Rattle.factor.proofs.Scalings.{product-length}
 use Rattle.factor.proofs.Squares.{diagonal-length}
 use Rattle.factor.proofs.Rotations.{turned-length, left-length}
-use Rattle.factor.proofs.Triangular.{heads-length}
-use Rattle.factor.proofs.Layouts.{leaving-shaped}
 
 -- ---- two lists that are the same at every place
 same-places : (xs ys : List Float) → length xs ≡ length ys → ((i : ℕ) → i < length xs → getD xs i nan ≡ getD ys i nan) → xs ≡ ys
@@ -47,6 +46,33 @@ scatter-fresh n order xs out old h long l a b =
     same-places (scatter (take n order) xs out) (scatter (take n order) xs old) (omega arith) (λ v p.
     let q = permutation-onto n order h long v (omega arith) in
     rw (q .1 .1) at (scatter-at n order xs out h long (omega arith) (omega arith) (q .0) (q .1 .0) ∙ sym (scatter-at n order xs old h long (omega arith) (omega arith) (q .0) (q .1 .0))))
+
+-- ---- products laid out are the products of what is laid out
+product-set : (out diag : List Float) (o : ℕ) (x : Float) → productAll (set out o x) diag ≡ set (productAll out diag) o (mul binary64 x (getD diag o nan))
+unfolding productAll
+product-set [] diag o x = refl
+product-set (y ∷ ys) [] zero x = refl
+product-set (y ∷ ys) [] (suc o) x = refl
+product-set (y ∷ ys) (d ∷ ds) zero x = refl
+product-set (y ∷ ys) (d ∷ ds) (suc o) x = ap (λ (l : List Float). mul binary64 y d ∷ l) (product-set ys ds o x)
+
+scatter-product : (os : List ℕ) (xs diag out : List Float) → scatter os (productAll xs (gather os diag)) (productAll out diag) ≡ productAll (scatter os xs out) diag
+unfolding scatter gather productAll
+scatter-product [] xs diag out = refl
+scatter-product (o ∷ os) [] diag out = refl
+scatter-product (o ∷ os) (x ∷ xs) diag out =
+    ap (λ (l : List Float). scatter os (productAll xs (gather os diag)) l) (sym (product-set out diag o x)) ∙ scatter-product os xs diag (set out o x)
+
+-- LAW: what stands at a column, each number having been placed there times the column's scaling, is what is placed there times the scaling
+pub placed-scaled : (n : ℕ) (order : List ℕ) (w diag v : List Float) → isPermutation n order ≡ true → n ≤ length order → length w ≡ n → length diag ≡ n → length v ≡ n
+    → scatter (take n order) (productAll w (gather (take n order) diag)) v ≡ productAll (scatter (take n order) w (zeros (length w))) diag
+placed-scaled n order w diag v h long a b c =
+    let g : length (gather (take n order) diag) ≡ n = gather-length (take n order) diag ∙ length-take-le n order long in
+    let x : length (productAll w (gather (take n order) diag)) ≡ n = product-length w (gather (take n order) diag) (a ∙ sym g) ∙ a in
+    let z : length (zeros (length w)) ≡ n = length-replicate (length w) plusZero ∙ a in
+    let y : length (productAll (zeros (length w)) diag) ≡ n = product-length (zeros (length w)) diag (z ∙ sym b) ∙ z in
+    scatter-fresh n order (productAll w (gather (take n order) diag)) v (productAll (zeros (length w)) diag) h long x c y
+    ∙ scatter-product (take n order) w diag (zeros (length w))
 
 -- ---- the solves' numbers
 padded-length : (n : ℕ) (xs : List Float) → length xs ≤ n → length (padded n xs) ≡ n
@@ -181,7 +207,7 @@ unfolding rowsFrom
 rows-even j [] = tt
 rows-even j (u ∷ us) = (ap suc (length-map us _), rows-even (suc j) us)
 
-tails-tall : (n : ℕ) (rows : List (List Float)) → Tri n rows → (k : ℕ) → k < n → length (getD (tails rows) k []) ≡ n - suc k
+pub tails-tall : (n : ℕ) (rows : List (List Float)) → Tri n rows → (k : ℕ) → k < n → length (getD (tails rows) k []) ≡ n - suc k
 unfolding tails
 tails-tall zero rows t k h = absurd (not-suc-le-zero h)
 tails-tall (suc n) [] t k h = absurd t
@@ -196,9 +222,3 @@ damping-fits ds us q h l = eliminated-even (length us) ds (rowsFrom 0 us) q h (r
 -- LAW: what a damped solve leaves is a room of the same shape, and its right side is as long as qt_b
 pub damping-even : (n : ℕ) (ds : List Float) (r : Room) → Shaped n r → length ds ≡ n → Even n (damping ds (r .upper) (r .qtb))
 damping-even n ds r z h = let w = z .upper-wide in rw w at (damping-fits ds (r .upper) (r .qtb) (h ∙ sym w) (z .qtb-long ∙ sym w))
-
-pub damped-shaped : (n : ℕ) (l : Rows) (r : Room) → Shaped n r → Even n l → Shaped n (dampedRoom l r)
-unfolding dampedRoom tails
-damped-shaped n l r z e =
-    let w = tri-length n (l .0) (e .0) in
-    leaving-shaped n r z (tails (l .0)) (heads (l .0)) (length-map (l .0) _ ∙ w) (tails-tall n (l .0) (e .0)) (heads-length (l .0) ∙ w)

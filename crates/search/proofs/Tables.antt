@@ -89,13 +89,9 @@ module _ (st : State) (order : List ℕ) (s : List Float) where
   effect-eight : (c : factor.Call) → factor.numberOf (effect c st order room .answer) ≡ 8 → effected st s (effect c st order room) ≡ afterEight c st s
   unfolding effect
   effect-eight (factor.zero-solve out) h = either st s (zeroX st room) _ _ _ refl refl h
-  effect-eight (factor.zero-working out) h = absurd (omega arith)
   effect-eight (factor.damped-solve diag out) h = either st s (dampedStep (dampedL st order diag room)) _ _ _ refl refl h
-  effect-eight (factor.damped-working diag out) h = absurd (omega arith)
   effect-eight (factor.held-solve rhs out) h = either st s (heldSolved (st .held) (gather (take (st .n) order) rhs) room) _ _ _ refl refl h
-  effect-eight (factor.held-solve-working rhs out) h = absurd (omega arith)
   effect-eight (factor.held-product out) h = either st s (heldProduct (st .held) room) _ _ _ refl refl h
-  effect-eight (factor.held-product-working out) h = absurd (omega arith)
   effect-eight (factor.gradient bnorm) h = ap (λ (x : Reply Float). factor.outcome (factor.number x) st (lay (rested room)) []) (by-eight _ h)
   effect-eight (factor.jx-norm x) h = ap (λ (x : Reply Float). factor.outcome (factor.number x) st (lay (rested room)) []) (by-eight _ h)
   effect-eight (factor.scaling md diag x bound) h = scaled-left (rescaled md (st .n) (room .norms) diag x bound) diag (rescaled-eight md (st .n) (room .norms) diag x bound h)

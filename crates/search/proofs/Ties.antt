@@ -25,27 +25,15 @@ use Rattle.factor.specs.declared.update_diag.ScalingTold.{ScalingTold}
 use Rattle.factor.proofs.least_squares.solve_with_zero_diagonal.{signature as solve-with-zero-diagonal-signature}
 use Rattle.factor.proofs.least_squares.solve_with_zero_diagonal.Reads as solve-with-zero-diagonal
 use Rattle.factor.proofs.least_squares.solve_with_zero_diagonal.Kinds as solve-with-zero-diagonal-kinds
-use Rattle.factor.proofs.least_squares.zero_working.{signature as zero-working-signature}
-use Rattle.factor.proofs.least_squares.zero_working.Reads as zero-working
-use Rattle.factor.proofs.least_squares.zero_working.Kinds as zero-working-kinds
 use Rattle.factor.proofs.least_squares.solve_with_diagonal.{signature as solve-with-diagonal-signature}
 use Rattle.factor.proofs.least_squares.solve_with_diagonal.Reads as solve-with-diagonal
 use Rattle.factor.proofs.least_squares.solve_with_diagonal.Kinds as solve-with-diagonal-kinds
-use Rattle.factor.proofs.least_squares.damped_working.{signature as damped-working-signature}
-use Rattle.factor.proofs.least_squares.damped_working.Reads as damped-working
-use Rattle.factor.proofs.least_squares.damped_working.Kinds as damped-working-kinds
 use Rattle.factor.proofs.cholesky.solve.{signature as solve-signature}
 use Rattle.factor.proofs.cholesky.solve.Reads as solve
 use Rattle.factor.proofs.cholesky.solve.Kinds as solve-kinds
-use Rattle.factor.proofs.cholesky.solve_working.{signature as solve-working-signature}
-use Rattle.factor.proofs.cholesky.solve_working.Reads as solve-working
-use Rattle.factor.proofs.cholesky.solve_working.Kinds as solve-working-kinds
 use Rattle.factor.proofs.cholesky.mul_qt_b.{signature as mul-qt-b-signature}
 use Rattle.factor.proofs.cholesky.mul_qt_b.Reads as mul-qt-b
 use Rattle.factor.proofs.cholesky.mul_qt_b.Kinds as mul-qt-b-kinds
-use Rattle.factor.proofs.cholesky.mul_working.{signature as mul-working-signature}
-use Rattle.factor.proofs.cholesky.mul_working.Reads as mul-working
-use Rattle.factor.proofs.cholesky.mul_working.Kinds as mul-working-kinds
 use Rattle.factor.proofs.measures.max_a_t_b_scaled.{signature as max-a-t-b-scaled-signature}
 use Rattle.factor.proofs.measures.max_a_t_b_scaled.Reads as max-a-t-b-scaled
 use Rattle.factor.proofs.measures.max_a_t_b_scaled.Kinds as max-a-t-b-scaled-kinds
@@ -79,40 +67,20 @@ pub solve-with-zero-diagonal-is : (κs : Lfts 3) (a : ArgsD solve-with-zero-diag
 unfolding perform factor.perform
 solve-with-zero-diagonal-is κs a r s p = ap (λ (e : calls.Ended (Unit {0})). ofBase (factor.ofEnded factor.done e)) p
 
-pub zero-working-is : (κs : Lfts 3) (a : ArgsD zero-working-signature κs) (r : Told) (s : AtExit (endedOf 3 zero-working-kinds.ps zero-working-kinds.r) κs) → zero-working.Post κs a r s
-    → left (of-base (factor.done (doneOf (r .answer)))) (r .state) (now (s .1 .0)) (now (s .1 .1 .1 .0)) ≡ perform (base (factor.zero-working (now (a .1 .1 .1 .0)))) (a .0) (now (a .1 .1 .0)) (now (a .1 .0))
-unfolding perform factor.perform
-zero-working-is κs a r s p = ap (λ (e : calls.Ended (Unit {0})). ofBase (factor.ofEnded factor.done e)) p
-
 pub solve-with-diagonal-is : (κs : Lfts 4) (a : ArgsD solve-with-diagonal-signature κs) (r : Told) (s : AtExit (endedOf 4 solve-with-diagonal-kinds.ps solve-with-diagonal-kinds.r) κs) → solve-with-diagonal.Post κs a r s
     → left (of-base (factor.done (doneOf (r .answer)))) (r .state) (now (s .1 .0)) (now (s .1 .1 .1 .1 .0)) ≡ perform (base (factor.damped-solve (now (a .1 .1 .1 .0)) (now (a .1 .1 .1 .1 .0)))) (a .0) (now (a .1 .1 .0)) (now (a .1 .0))
 unfolding perform factor.perform
 solve-with-diagonal-is κs a r s p = ap (λ (e : calls.Ended (Unit {0})). ofBase (factor.ofEnded factor.done e)) p
-
-pub damped-working-is : (κs : Lfts 4) (a : ArgsD damped-working-signature κs) (r : Told) (s : AtExit (endedOf 4 damped-working-kinds.ps damped-working-kinds.r) κs) → damped-working.Post κs a r s
-    → left (of-base (factor.done (doneOf (r .answer)))) (r .state) (now (s .1 .0)) (now (s .1 .1 .1 .1 .0)) ≡ perform (base (factor.damped-working (now (a .1 .1 .1 .0)) (now (a .1 .1 .1 .1 .0)))) (a .0) (now (a .1 .1 .0)) (now (a .1 .0))
-unfolding perform factor.perform
-damped-working-is κs a r s p = ap (λ (e : calls.Ended (Unit {0})). ofBase (factor.ofEnded factor.done e)) p
 
 pub solve-is : (κs : Lfts 4) (a : ArgsD solve-signature κs) (r : Told) (s : AtExit (endedOf 4 solve-kinds.ps solve-kinds.r) κs) → solve.Post κs a r s
     → left (of-base (factor.done (doneOf (r .answer)))) (r .state) (now (s .1 .0)) (now (s .1 .1 .1 .1 .0)) ≡ perform (base (factor.held-solve (now (a .1 .1 .1 .0)) (now (a .1 .1 .1 .1 .0)))) (a .0) (now (a .1 .1 .0)) (now (a .1 .0))
 unfolding perform factor.perform
 solve-is κs a r s p = ap (λ (e : calls.Ended (Unit {0})). ofBase (factor.ofEnded factor.done e)) p
 
-pub solve-working-is : (κs : Lfts 4) (a : ArgsD solve-working-signature κs) (r : Told) (s : AtExit (endedOf 4 solve-working-kinds.ps solve-working-kinds.r) κs) → solve-working.Post κs a r s
-    → left (of-base (factor.done (doneOf (r .answer)))) (r .state) (now (s .1 .0)) (now (s .1 .1 .1 .1 .0)) ≡ perform (base (factor.held-solve-working (now (a .1 .1 .1 .0)) (now (a .1 .1 .1 .1 .0)))) (a .0) (now (a .1 .1 .0)) (now (a .1 .0))
-unfolding perform factor.perform
-solve-working-is κs a r s p = ap (λ (e : calls.Ended (Unit {0})). ofBase (factor.ofEnded factor.done e)) p
-
 pub mul-qt-b-is : (κs : Lfts 2) (a : ArgsD mul-qt-b-signature κs) (r : Told) (s : AtExit (endedOf 2 mul-qt-b-kinds.ps mul-qt-b-kinds.r) κs) (order : List ℕ) → mul-qt-b.Post κs a r s
     → left (of-base (factor.done (doneOf (r .answer)))) (r .state) (now (s .1 .0)) (now (s .1 .1 .0)) ≡ perform (base (factor.held-product (now (a .1 .1 .0)))) (a .0) order (now (a .1 .0))
 unfolding perform factor.perform
 mul-qt-b-is κs a r s order p = ap (λ (e : calls.Ended (Unit {0})). ofBase (factor.ofEnded factor.done e)) p
-
-pub mul-working-is : (κs : Lfts 2) (a : ArgsD mul-working-signature κs) (r : Told) (s : AtExit (endedOf 2 mul-working-kinds.ps mul-working-kinds.r) κs) (order : List ℕ) → mul-working.Post κs a r s
-    → left (of-base (factor.done (doneOf (r .answer)))) (r .state) (now (s .1 .0)) (now (s .1 .1 .0)) ≡ perform (base (factor.held-product-working (now (a .1 .1 .0)))) (a .0) order (now (a .1 .0))
-unfolding perform factor.perform
-mul-working-is κs a r s order p = ap (λ (e : calls.Ended (Unit {0})). ofBase (factor.ofEnded factor.done e)) p
 
 pub max-a-t-b-scaled-is : (κs : Lfts 2) (a : ArgsD max-a-t-b-scaled-signature κs) (r : GradientTold) (s : AtExit (endedOf 2 max-a-t-b-scaled-kinds.ps max-a-t-b-scaled-kinds.r) κs) → max-a-t-b-scaled.Post κs a r s
     → left (of-base (factor.number (gradientOf (r .answer)))) (r .state) (now (s .1 .0)) [] ≡ perform (base (factor.gradient (a .1 .1 .1 .0))) (a .0) (now (a .1 .1 .0)) (now (a .1 .0))

@@ -1,69 +1,42 @@
--- What the workings of `factor` leave and answer where their tests are passed, as its contracts say. Assumes nothing.
+-- What the solves of `factor` in pivot order leave and answer where their tests are passed, as its contracts say. Assumes nothing.
 use mathlib.Core.Path.{_≡_, refl, sym, ap, _∙_}
-use mathlib.Core.Bool.{Bool, true, false, cond, _||_, true≢false}
-use mathlib.Core.Logic.{_⊎_, inl, inr, ⊎-elim}
-use mathlib.Core.List.{List, [], _∷_, _++_, append-nil}
+use mathlib.Core.Bool.{Bool, true}
+use mathlib.Core.List.{List, [], _∷_}
 use Prim.Native.Nat.{ℕ, _<_, _≤_, min}
 use native.Mathlib.Nat.{min-eq-left, min-eq-right, le-refl}
 use native.Mathlib.Omega.{arith}
-use lib.Dec.{ltb}
-use borrow.Author.Tests.{ne-eqb, le-ltb}
-use lib.ListN.{length, getD, take, drop, length-take, length-replicate, drop-of-length-le}
+use lib.ListN.{length, getD, take}
 use lib.Seq.{take-all, length-take-le}
 use lib.Ieee.{Float}
-use Rattle.leaves.specs.Reply.{Reply, answered, refused}
-use Rattle.leaves.specs.Number.{plusZero}
+use Rattle.leaves.specs.Reply.{Reply, answered}
 use Rattle.leaves.specs.Root.{rootS}
 use Rattle.leaves.specs.Norm.{norm}
 use Rattle.leaves.specs.Vector.{scaleAll}
-use Rattle.factor.specs.State.{isEmpty, isNothing, outside, storeNeed, withHeld}
-use Rattle.factor.specs.Room.{Room, Sized, Shaped, load, lay, zeros, leaving, emptied, rested}
-use Rattle.factor.specs.Tests.{Test, firstOf, roomTests, orderTest, heldTest, isPermutation}
+use Rattle.leaves.specs.Product.{productAll}
+use Rattle.factor.specs.Room.{Room, Sized, Shaped, load, lay, zeros, emptied}
+use Rattle.factor.specs.Tests.{firstOf, roomTests, orderTest, isPermutation}
 use Rattle.factor.specs.Solve.{zeroSolved, scatter, gather, nonSingular}
-use Rattle.factor.specs.Eliminate.{Rows, damping, dampedSolved, heads, tails}
+use Rattle.factor.specs.Eliminate.{Rows, damping, heads, tails}
 use Rattle.factor.specs.Held.{mulUpper, heldSolved, heldProduct}
-use Rattle.factor.specs.Calls.{Ended, Told, ended, told, written, solveTests, solvedAs, dampedRoom, zeroWorking, dampedWorking, solveWorking, mulWorking, nonSingularCall}
+use Rattle.factor.specs.Calls.{Ended, Told, ended, told, written}
 use Rattle.factor.specs.Calls as calls
+use Rattle.factor.specs.Reader.{Read, read}
+use Rattle.factor.specs.PivotOrder.{tested, lowered, zeroIn, dampedIn, heldZeroIn, heldDampedIn, productIn, fullRank, emptyCall}
 use Rattle.factor.specs.declared.state.State.{State}
 use Rattle.factor.specs.declared.state.Held.{Held}
 use Rattle.factor.specs.declared.state.Held.the-variants as held
-use Rattle.factor.proofs.Refusals.{numbered, call-worked, went-on, test-passed, passed-iff}
 use Rattle.factor.proofs.Passed.{Ordered, solve-passed, passed-sized}
 use Rattle.factor.proofs.Measured.{earlier-passed}
 use Rattle.factor.proofs.Orders.{permutation-below}
 use Rattle.factor.proofs.Solves.{gather-length}
-use Rattle.factor.proofs.Layouts.{load-shaped, load-lay, rested-shaped}
-use Rattle.search.specs.Problem.{Problem, placed, undampedStep, dampedRows, dampedStep, newton}
+use Rattle.factor.proofs.Layouts.{load-shaped}
+use Rattle.factor.proofs.PivotOrders.{written-whole, zero-in-passed, damped-in-passed, held-zero-in-passed, held-damped-in-passed, product-in-passed, full-rank-passed, empty-call-passed}
+use Rattle.search.specs.Problem.{Problem, placed, undampedStep, dampedRows, dampedStep, scaledStep}
 use Rattle.search.specs.Search.{problemOf}
 use Rattle.search.specs.Bounds.{quotients, gnorm}
 use Rattle.search.specs.Read.{Ready, turnedBy}
-use Rattle.search.proofs.Shapes.{scatter-fresh, zero-length, damped-length, upper-length, lower-length, mul-length, damping-even, Even}
-
-rested-twice : (r : Room) → rested (rested r) ≡ rested r
-unfolding leaving
-rested-twice r = rw (length-replicate (length (r .work)) plusZero)
-
-one-row : (n : ℕ) → 0 < n → n ≤ 16 → outside 1 n ≡ false
-unfolding outside
-one-row n h k = rw (ne-eqb n 0 (λ z. omega arith), le-ltb 16 n k)
-
--- ---- a held solve's numbers
-filled-held : (st : State) → isEmpty (st .held) ≡ false → isNothing (st .held) ≡ false → (st .held ≡ held.Zero) ⊎ (st .held ≡ held.Damped)
-filled-held st e i = by (st .held) e i
-  where
-    by : (h : Held) → isEmpty h ≡ false → isNothing h ≡ false → (h ≡ held.Zero) ⊎ (h ≡ held.Damped)
-    by held.Empty e i = absurd (true≢false e)
-    by held.Nothing e i = absurd (true≢false i)
-    by held.Zero e i = inl refl
-    by held.Damped e i = inr refl
-
-held-length : (st : State) (r : Room) (bs : List Float) → Shaped (st .n) r → (st .held ≡ held.Zero) ⊎ (st .held ≡ held.Damped) → length bs ≡ st .n
-    → length (heldSolved (st .held) bs r) ≡ st .n
-unfolding heldSolved
-held-length st r bs z h l =
-    ⊎-elim
-    (λ e. rw e (upper-length (r .upper) bs (z .upper-wide ∙ sym l) ∙ l))
-    (λ e. rw e (lower-length (r .ldiag) (r .below) bs (z .ldiag-long ∙ sym l) (z .below-wide ∙ sym l) ∙ l)) h
+use Rattle.search.proofs.Lists.{by-scaling}
+use Rattle.search.proofs.Shapes.{zero-length, damped-length, upper-length, lower-length, mul-length, damping-even, Even, placed-scaled}
 
 module _ (st : State) (store : List Float) (order : List ℕ) (e : Ready st store order) where
   abbrev n : ℕ
@@ -90,163 +63,127 @@ module _ (st : State) (store : List Float) (order : List ℕ) (e : Ready st stor
   pub order-below : (k : ℕ) → k < st .n → getD order k 0 < st .n
   order-below = permutation-below (st .n) order (ordered .permuted) order-long
 
-  tests-at : (k : ℕ) → k ≡ st .n → firstOf (solveTests st (length store) order k) ≡ 0
-  tests-at k h = rw h e
+  pub permuted : isPermutation (st .n) order ≡ true
+  permuted = ordered .permuted
 
   room-tests : firstOf (roomTests st (length store) (st .n)) ≡ 0
   room-tests =
       let m : min (length order) (st .n) ≡ st .n = min-eq-right order-long in
       rw m at (earlier-passed (roomTests st (length store) (min (length order) (st .n))) (orderTest st order ∷ []) refl refl e)
 
-  -- ---- the zero solve
-  module _ (out : List Float) (long : length out ≡ st .n) where
-    zero-worked : zeroWorking st order store out ≡ solvedAs st order held.Zero (emptied room) (zeroSolved (st .m) (room .upper) (room .qtb)) out
-    unfolding zeroWorking
-    zero-worked = sym (call-worked _ (λ k. ended (refused k) st store out) _ (tests-at (length out) long))
+  pub tests-at : (k : ℕ) → k ≡ st .n → tested st store k ≡ 0
+  tests-at k h = rw h room-tests
 
-    module _ {a : Reply (Unit {0})} {st′ : State} {s′ out′ : List Float} (h : ended a st′ s′ out′ ≡ zeroWorking st order store out) where
-      pub zero-store : s′ ≡ lay (emptied room)
-      zero-store = ap (λ (x : Ended (Unit {0})). x .store) (h ∙ zero-worked)
+  -- ---- the calls that write w and read the store
+  module _ (w : List Float) (long : length w ≡ st .n) where
+    out-is : (xs : List Float) {a : Reply (Unit {0})} {w′ : List Float} → length xs ≡ st .n → read a w′ ≡ read (answered tt) (written xs w) → w′ ≡ xs
+    out-is xs l h = ap (λ (x : Read). x .out) h ∙ written-whole xs w (l ∙ sym long)
 
-      zero-out : out′ ≡ scatter (take (st .n) order) (zeroSolved (st .m) (room .upper) (room .qtb)) out
-      zero-out = ap (λ (x : Ended (Unit {0})). x .out) (h ∙ zero-worked)
+    front-is : take (st .n) w ≡ w
+    front-is = take-all (st .n) w (omega arith)
 
-      pub zero-step : (diag : List Float) (radius : Float) → out′ ≡ undampedStep (problemOf st order diag radius room)
-      unfolding undampedStep placed
-      zero-step diag radius =
-          let xs = zeroSolved (st .m) (room .upper) (room .qtb) in
-          let z = shaped in
-          let l : length xs ≡ st .n = zero-length (st .m) (room .upper) (room .qtb) (z .upper-wide ∙ sym (z .qtb-long)) ∙ z .qtb-long in
-          zero-out ∙ scatter-fresh (st .n) order xs out (zeros (length xs)) (ordered .permuted) order-long l long (length-replicate (length xs) plusZero ∙ l)
+    pub zero-numbers : {a : Reply (Unit {0})} {w′ : List Float} → read a w′ ≡ zeroIn st store w → w′ ≡ zeroSolved (st .m) (room .upper) (room .qtb)
+    zero-numbers h =
+        let z = shaped in
+        out-is _ (zero-length (st .m) (room .upper) (room .qtb) (z .upper-wide ∙ sym (z .qtb-long)) ∙ z .qtb-long) (h ∙ zero-in-passed st store w (tests-at (length w) long))
+
+    pub held-zero-numbers : {a : Reply (Unit {0})} {w′ : List Float} → read a w′ ≡ heldZeroIn st store w → w′ ≡ heldSolved held.Zero w room
+    unfolding heldSolved
+    held-zero-numbers h =
+        out-is _ (rw front-is (upper-length (room .upper) w (shaped .upper-wide ∙ sym long) ∙ long)) (h ∙ held-zero-in-passed st store w (tests-at (length w) long))
+        ∙ ap (λ (x : List Float). heldSolved held.Zero x room) front-is
+
+    pub held-damped-numbers : {a : Reply (Unit {0})} {w′ : List Float} → read a w′ ≡ heldDampedIn st store w → w′ ≡ heldSolved held.Damped w room
+    unfolding heldSolved
+    held-damped-numbers h =
+        let z = shaped in
+        out-is _ (rw front-is (lower-length (room .ldiag) (room .below) w (z .ldiag-long ∙ sym long) (z .below-wide ∙ sym long) ∙ long)) (h ∙ held-damped-in-passed st store w (tests-at (length w) long))
+        ∙ ap (λ (x : List Float). heldSolved held.Damped x room) front-is
+
+    pub product-numbers : {a : Reply (Unit {0})} {w′ : List Float} → read a w′ ≡ productIn st store w → w′ ≡ mulUpper (room .qtb) (room .upper)
+    unfolding heldProduct
+    product-numbers h = out-is _ (mul-length (room .qtb) (room .upper) ∙ shaped .upper-wide) (h ∙ product-in-passed st store w (tests-at (length w) long))
+
+  pub undamped-placed : (diag w′ : List Float) (radius : Float) → w′ ≡ zeroSolved (st .m) (room .upper) (room .qtb)
+      → placed (problemOf st order diag radius room) w′ ≡ undampedStep (problemOf st order diag radius room)
+  unfolding undampedStep
+  undamped-placed diag w′ radius h = ap (placed (problemOf st order diag radius room)) h
+
+  -- the scaled step, placed from numbers in pivot order
+  pub scaled-placed : (diag v w′ : List Float) (radius : Float) {v′ : List Float} → length diag ≡ st .n → length v ≡ st .n → length w′ ≡ st .n
+      → v′ ≡ scatter (take (length w′) order) (productAll w′ (gather (take (length w′) order) diag)) v
+      → v′ ≡ scaledStep (problemOf st order diag radius room) (placed (problemOf st order diag radius room) w′)
+  unfolding placed
+  scaled-placed diag v w′ radius dl vl wl h =
+      by-scaling (st .n) (scatter (take (st .n) order) w′ (zeros (length w′))) diag dl
+      (h ∙ ap (λ (k : ℕ). scatter (take k order) (productAll w′ (gather (take k order) diag)) v) wl ∙ placed-scaled (st .n) order w′ diag v permuted order-long wl dl vl)
 
   -- ---- the damped solve
-  module _ (diag v out : List Float) (lambda : Float) (dl : length diag ≡ st .n) (vl : length v ≡ st .n) (long : length out ≡ st .n) (vs : v ≡ scaleAll (rootS lambda) diag) where
+  module _ (diag : List Float) (lambda : Float) (dl : length diag ≡ st .n) where
     abbrev asked : Float → Problem
     asked radius = problemOf st order diag radius room
 
+    abbrev by-place : List Float
+    by-place = gather (take (st .n) order) (scaleAll (rootS lambda) diag)
+
     abbrev given : Rows
-    given = damping (gather (take (st .n) order) v) (room .upper) (room .qtb)
+    given = damping by-place (room .upper) (room .qtb)
 
-    pub rows-are : (radius : Float) → given ≡ dampedRows (asked radius) lambda
+    place-long : length by-place ≡ st .n
+    place-long = gather-length (take (st .n) order) (scaleAll (rootS lambda) diag) ∙ length-take-le (st .n) order order-long
+
+    rows-are : (radius : Float) → given ≡ dampedRows (asked radius) lambda
     unfolding dampedRows
-    rows-are radius = rw (vs, take-all (st .n) diag (omega arith))
+    rows-are radius = rw (take-all (st .n) diag (omega arith))
 
-    pub rows-even : Even (st .n) given
-    rows-even = damping-even (st .n) (gather (take (st .n) order) v) room shaped (gather-length (take (st .n) order) v ∙ length-take-le (st .n) order order-long)
+    rows-even : Even (st .n) given
+    rows-even = damping-even (st .n) by-place room shaped place-long
 
-    damped-worked : dampedWorking st v order store out ≡ solvedAs st order held.Damped (dampedRoom given room) (calls.dampedStep given) out
-    unfolding dampedWorking
-    damped-worked = sym (call-worked _ (λ k. ended (refused k) st store out) _ (tests-at (min (length v) (length out)) (rw (vl, long) (min-eq-left (le-refl (st .n))))))
+    -- the diagonal in pivot order
+    module _ (ds w : List Float) (es : ds ≡ by-place) (wl : length w ≡ st .n) where
+      ds-long : length ds ≡ st .n
+      ds-long = rw es place-long
 
-    module _ {a : Reply (Unit {0})} {st′ : State} {s′ out′ : List Float} (h : ended a st′ s′ out′ ≡ dampedWorking st v order store out) where
-      pub damped-store : (radius : Float) → s′ ≡ lay (dampedRoom (dampedRows (asked radius) lambda) room)
-      damped-store radius = ap (λ (x : Ended (Unit {0})). x .store) (h ∙ damped-worked) ∙ ap (λ (x : Rows). lay (dampedRoom x room)) (rows-are radius)
+      worked-by : damping (take (st .n) ds) (room .upper) (room .qtb) ≡ given
+      worked-by = ap (λ (x : List Float). damping x (room .upper) (room .qtb)) (take-all (st .n) ds (omega (arith, ds-long)) ∙ es)
 
-      pub damped-step : (radius : Float) → out′ ≡ dampedStep (asked radius) lambda
-      unfolding dampedStep placed
-      damped-step radius =
-          let xs = calls.dampedStep given in
-          let l : length xs ≡ st .n = damped-length (heads (given .0)) (tails (given .0)) (given .1) ∙ rows-even .1 in
-          ap (λ (x : Ended (Unit {0})). x .out) (h ∙ damped-worked)
-          ∙ scatter-fresh (st .n) order xs out (zeros (length xs)) (ordered .permuted) order-long l long (length-replicate (length xs) plusZero ∙ l)
-          ∙ ap (λ (x : Rows). scatter (take (st .n) order) (calls.dampedStep x) (zeros (length (calls.dampedStep x)))) (rows-are radius)
+      damped-worked : dampedIn st ds store w ≡ ended (answered tt) st (lay (lowered given room)) (written (calls.dampedStep given) w)
+      damped-worked =
+          damped-in-passed st ds store w (tests-at (min (length ds) (length w)) (rw (ds-long, wl) (min-eq-left (le-refl (st .n)))))
+          ∙ ap (λ (x : Rows). ended (answered tt) st (lay (lowered x room)) (written (calls.dampedStep x) w)) worked-by
 
-  -- ---- the rank
-  rank-worked : nonSingularCall st store ≡ told (answered (nonSingular (st .m) (st .n) (room .upper))) st (lay (rested room))
-  unfolding nonSingularCall
-  rank-worked = sym (call-worked _ (λ k. told (refused k) st store) _ room-tests)
+      module _ {a : Reply (Unit {0})} {s′ w′ : List Float} (h : ended a st s′ w′ ≡ dampedIn st ds store w) where
+        pub damped-store : (radius : Float) → s′ ≡ lay (lowered (dampedRows (asked radius) lambda) room)
+        damped-store radius = ap (λ (x : Ended (Unit {0})). x .store) (h ∙ damped-worked) ∙ ap (λ (x : Rows). lay (lowered x room)) (rows-are radius)
 
-  module _ {a : Reply Bool} {st′ : State} {s′ : List Float} (h : told a st′ s′ ≡ nonSingularCall st store) where
-    pub rank-store : s′ ≡ lay (rested room)
-    rank-store = ap (λ (x : Told Bool). x .store) (h ∙ rank-worked)
+        pub damped-numbers : w′ ≡ calls.dampedStep given
+        damped-numbers =
+            ap (λ (x : Ended (Unit {0})). x .out) (h ∙ damped-worked)
+            ∙ written-whole (calls.dampedStep given) w (damped-length (heads (given .0)) (tails (given .0)) (given .1) ∙ rows-even .1 ∙ sym wl)
 
-    pub rank-told : a ≡ answered (nonSingular (st .m) (st .n) (room .upper))
-    rank-told = ap (λ (x : Told Bool). x .reply) (h ∙ rank-worked)
+        pub damped-placed : (radius : Float) → placed (asked radius) w′ ≡ dampedStep (asked radius) lambda
+        unfolding dampedStep
+        damped-placed radius = ap (placed (asked radius)) damped-numbers ∙ ap (λ (x : Rows). placed (asked radius) (calls.dampedStep x)) (rows-are radius)
 
-  -- ---- the held solve
-  held-tests : (ts : List Test) → firstOf ts ≡ 0 → numbered ts ≡ true → isNothing (st .held) ≡ false → firstOf (ts ++ (heldTest st ∷ [])) ≡ 0
-  unfolding firstOf
-  held-tests ts h q i = went-on ts (heldTest st ∷ []) 0 q (sym h) refl ∙ test-passed (heldTest st) [] i
+  -- ---- the rank, and the room that a search leaves
+  pub rank-told : {a : Reply Bool} → a ≡ fullRank st store → a ≡ answered (nonSingular (st .m) (st .n) (room .upper))
+  rank-told h = h ∙ full-rank-passed st store room-tests
 
-  whole : (xs out : List Float) {out′ : List Float} → length xs ≡ st .n → length out ≡ st .n → out′ ≡ written xs out → out′ ≡ xs
-  whole xs out l long h = h ∙ ap (λ (z : List Float). xs ++ z) (drop-of-length-le out {i = length xs} (omega arith)) ∙ append-nil xs
-
-  module _ (rhs out : List Float) (rl : length rhs ≡ st .n) (long : length out ≡ st .n) (i : isNothing (st .held) ≡ false) where
-    abbrev solved : List Float
-    solved = heldSolved (st .held) (gather (take (st .n) order) rhs) room
-
-    solve-worked : solveWorking st order rhs store out ≡ ended (answered tt) st (lay (rested room)) (written solved out)
-    unfolding solveWorking
-    solve-worked =
-        sym (call-worked _ (λ k. ended (refused k) st store out) _
-        (held-tests (solveTests st (length store) order (min (length rhs) (length out))) (tests-at (min (length rhs) (length out)) (rw (rl, long) (min-eq-left (le-refl (st .n))))) refl i))
-
-    module _ {a : Reply (Unit {0})} {st′ : State} {s′ out′ : List Float} (h : ended a st′ s′ out′ ≡ solveWorking st order rhs store out) where
-      pub solve-store : s′ ≡ lay (rested room)
-      solve-store = ap (λ (x : Ended (Unit {0})). x .store) (h ∙ solve-worked)
-
-      pub solve-out : out′ ≡ solved
-      solve-out =
-          whole solved out (held-length st room (gather (take (st .n) order) rhs) shaped (filled-held st (ordered .room .filled) i) (gather-length (take (st .n) order) rhs ∙ length-take-le (st .n) order order-long)) long
-          (ap (λ (x : Ended (Unit {0})). x .out) (h ∙ solve-worked))
-
-  -- ---- L·qt_b after a zero solve
-  module _ (out : List Float) (long : length out ≡ st .n) (i : st .held ≡ held.Zero) where
-    mul-worked : mulWorking st store out ≡ ended (answered tt) st (lay (rested room)) (written (heldProduct (st .held) room) out)
-    unfolding mulWorking
-    mul-worked =
-        sym (call-worked _ (λ k. ended (refused k) st store out) _
-        (held-tests (roomTests st (length store) (length out)) (rw long room-tests) refl (rw i)))
-
-    module _ {a : Reply (Unit {0})} {st′ : State} {s′ out′ : List Float} (h : ended a st′ s′ out′ ≡ mulWorking st store out) where
-      pub mul-store : s′ ≡ lay (rested room)
-      mul-store = ap (λ (x : Ended (Unit {0})). x .store) (h ∙ mul-worked)
-
-      pub mul-out : out′ ≡ mulUpper (room .qtb) (room .upper)
-      unfolding heldProduct
-      mul-out = whole (mulUpper (room .qtb) (room .upper)) out (mul-length (room .qtb) (room .upper) ∙ shaped .upper-wide) long (ap (λ (x : Ended (Unit {0})). x .out) (h ∙ mul-worked) ∙ rw i)
+  pub empty-store : {a : Reply (Unit {0})} {s′ : List Float} → told a st s′ ≡ emptyCall st store → s′ ≡ lay (emptied room)
+  empty-store h = ap (λ (x : Told (Unit {0})). x .store) (h ∙ empty-call-passed st store room-tests)
 
   -- ---- what the numbers are that are taken from them
-  module _ (diag : List Float) (dl : length diag ≡ st .n) where
-    pub slope-is : (s : Float) (v : List Float) {v′ p′ : List Float} {r : Float} → v′ ≡ turnedBy s v diag → p′ ≡ heldSolved (st .held) (gather (take (st .n) order) v′) room → r ≡ norm p′
-        → r ≡ norm (heldSolved (st .held) (gather (take (st .n) order) (turnedBy s v diag)) room)
-    slope-is s v a b k = k ∙ ap norm (b ∙ ap (λ (z : List Float). heldSolved (st .held) (gather (take (st .n) order) z) room) a)
+  pub slope-is : (h : Held) (s : Float) (v diag w w′ : List Float) {w″ : List Float} {r : Float} → length w ≡ st .n
+      → w′ ≡ gather (take (length w) order) (turnedBy s v diag) → w″ ≡ heldSolved h w′ room → r ≡ norm w″
+      → r ≡ norm (heldSolved h (gather (take (st .n) order) (turnedBy s v diag)) room)
+  slope-is h s v diag w w′ l a b k = k ∙ ap norm (b ∙ ap (λ (z : List Float). heldSolved h z room) (a ∙ ap (λ (j : ℕ). gather (take j order) (turnedBy s v diag)) l))
 
+  module _ (diag : List Float) (dl : length diag ≡ st .n) where
     pub gnorm-is : (radius : Float) (w : List Float) {w′ : List Float} {r : Float} → length w ≡ st .n → w ≡ mulUpper (room .qtb) (room .upper)
         → w′ ≡ quotients w (gather (take (length w) order) diag) → r ≡ norm w′ → r ≡ gnorm (problemOf st order diag radius room)
     unfolding gnorm
     gnorm-is radius w l a b k = k ∙ ap norm (b ∙ rw (l, take-all (st .n) diag (omega arith)) (ap (λ (z : List Float). quotients z (gather (take (st .n) order) diag)) a))
 
-  -- ---- the store after a call that changes work alone
+  -- ---- the store after a call
   pub ready-after : (s′ : List Float) → length s′ ≡ length store → Ready st s′ order
   ready-after s′ h = rw h e
-
-  pub ready-held : (h : Held) → isEmpty h ≡ false → Ready (withHeld st h) store order
-  ready-held h i =
-      let rest : List Test = (outside (st .m) (st .n), 2) ∷ (ltb (length store) (storeNeed (st .n)) || ltb (min (length order) (st .n)) (st .n), 3) ∷ orderTest st order ∷ [] in
-      test-passed (isEmpty h, 5) rest i ∙ sym (test-passed (isEmpty (st .held), 5) rest (ordered .room .filled)) ∙ e
-
-  -- the room that a zero solve leaves does not hang on m
-  pub ready-one : Ready (record { m = 1; n = st .n; held = held.Zero }) store order
-  ready-one =
-      let h = passed-iff (solveTests st (length store) order (st .n)) refl .0 e in
-      let i = ordered .room .sizes in
-      passed-iff (solveTests (record { m = 1; n = st .n; held = held.Zero }) (length store) order (st .n)) refl .1 (refl, (one-row (st .n) (i .cols-some) (i .cols-few), h .1 .1))
-
-  pub rested-loaded : {s′ : List Float} → s′ ≡ lay (rested room) → load (st .n) s′ ≡ rested room
-  rested-loaded h = ap (λ (s : List Float). load (st .n) s) h ∙ load-lay (st .n) (rested room) (rested-shaped (st .n) room shaped)
-
-  pub rested-again : (s′ : List Float) {s″ : List Float} → s′ ≡ lay (rested room) → s″ ≡ lay (rested (load (st .n) s′)) → s″ ≡ lay (rested room)
-  rested-again s′ h k = k ∙ ap (λ (r : Room). lay (rested r)) (rested-loaded h) ∙ ap lay (rested-twice room)
-
-  -- ---- the lower bound
-  abbrev bound : Float → Float → Float → List Float → List Float → Float
-  bound fp radius s v diag = cond (nonSingular (st .m) (st .n) (room .upper)) (newton fp radius (norm (heldSolved (st .held) (gather (take (st .n) order) (turnedBy s v diag)) (rested room)))) plusZero
-
-  module _ (fp radius s : Float) (v diag : List Float) {b : Bool} (k : b ≡ nonSingular (st .m) (st .n) (room .upper)) where
-    pub lower-full : {r : Float} (s′ : List Float) → b ≡ true → s′ ≡ lay (rested room)
-        → r ≡ newton fp radius (norm (heldSolved (st .held) (gather (take (st .n) order) (turnedBy s v diag)) (load (st .n) s′))) → r ≡ bound fp radius s v diag
-    lower-full s′ t h q = q ∙ rw (sym k ∙ t) (ap (λ (x : Room). newton fp radius (norm (heldSolved (st .held) (gather (take (st .n) order) (turnedBy s v diag)) x))) (rested-loaded h))
-
-    pub lower-else : b ≡ false → plusZero ≡ bound fp radius s v diag
-    lower-else t = rw (sym k ∙ t)

@@ -1,5 +1,5 @@
 // Document 01, module 7: the numbers that a search goes by, and its stop rules.
-use leaves::number::abs;
+use leaves::number::abs_within;
 use leaves::number::dwarf;
 use leaves::number::is_negative;
 use leaves::number::max;
@@ -63,7 +63,7 @@ pub(crate) fn raised_of(lambda: f64, upper: f64) -> f64
 pub(crate) fn is_within(radius: f64, fp: f64) -> bool
     ensures { λ r. ⌜ r ≡ le (absOf fp) (band radius) ⌝ }
 {
-    abs(fp) <= band_of(radius)
+    abs_within(fp, band_of(radius))
 }
 
 pub(crate) fn is_falling(s: Going, fp: f64) -> bool

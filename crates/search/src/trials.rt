@@ -12,16 +12,14 @@ use crate::slopes::gradient_norm;
 use crate::slopes::lower_bound;
 use crate::steps::damped;
 use crate::trust_region::Found;
-use factor::state::Held;
 use factor::state::State;
 use leaves::number::is_finite;
 ghost use mathlib.Core.Path.{_≡_};
 ghost use lib.ListN.{length};
 ghost use Rattle.leaves.specs.Norm.{norm as normOf};
 ghost use Rattle.factor.specs.Room.{load, emptied};
-ghost use Rattle.factor.specs.declared.state.Held.the-variants.{Zero};
 ghost use Rattle.search.specs.declared.trust_region.Found.the-variants as found;
-ghost use Rattle.search.specs.Problem.{scaledStep};
+ghost use Rattle.search.specs.Problem.{placed, scaledStep};
 ghost use Rattle.search.specs.Run.{trialsFrom};
 ghost use Rattle.search.specs.Search.{problemOf, concluded};
 ghost use Rattle.search.specs.Read.{Ready, withStep, unanswered, nextOf, damped as dampedRun};
@@ -37,7 +35,7 @@ fn told(lambda: f64, norm: f64, trials: usize) -> Found
     })
 }
 
-// At most ten trials. The step that is answered stands in p.
+// At most ten trials. The step that is answered stands in w.
 pub(crate) fn trials(
     st: State,
     store: &mut [f64],
@@ -45,19 +43,14 @@ pub(crate) fn trials(
     diag: &[f64],
     radius: f64,
     first: Going,
-    p: &mut [f64],
     v: &mut [f64],
+    w: &mut [f64],
 ) -> Found
     requires { ⌜ Ready st (now store) (now order) ⌝ }
-    requires { ⌜ (length (now diag) ≡ st .n) × (length (now p) ≡ st .n) × (length (now v) ≡ st .n) ⌝ }
-    ensures { λ r. ⌜ withStep r (now (p .exit)) ≡ concluded 0 unanswered (trialsFrom (problemOf st (now (order .entry)) (now (diag .entry)) radius (load (st .n) (now (store .entry)))) 9 (nextOf first)) ⌝ }
+    requires { ⌜ (length (now diag) ≡ st .n) × (length (now v) ≡ st .n) × (length (now w) ≡ st .n) ⌝ }
+    ensures { λ r. ⌜ withStep r (placed (problemOf st (now (order .entry)) (now (diag .entry)) radius (load (st .n) (now (store .entry)))) (now (w .exit))) ≡ concluded 0 unanswered (trialsFrom (problemOf st (now (order .entry)) (now (diag .entry)) radius (load (st .n) (now (store .entry)))) 9 (nextOf first)) ⌝ }
     ensures { λ _. ⌜ emptied (load (st .n) (now (store .exit))) ≡ emptied (load (st .n) (now (store .entry))) ⌝ }
 {
-    let after = State {
-        m: st.m,
-        n: st.n,
-        held: Held::Damped,
-    };
     let mut s = first;
     let mut t: usize = 0;
     let answer = loop {
@@ -65,7 +58,7 @@ pub(crate) fn trials(
         if !is_finite(lambda) {
             break Found::Refused(8);
         }
-        let norm = damped(st, store, order, diag, lambda, p, v);
+        let norm = damped(st, store, order, diag, lambda, v, w);
         if !is_finite(norm) {
             break Found::Refused(8);
         }
@@ -80,7 +73,7 @@ pub(crate) fn trials(
         if is_falling(s, fp) {
             break told(lambda, norm, t);
         }
-        let c = correction(after, store, order, diag, radius, fp, norm, p, v);
+        let c = correction(st, store, order, diag, radius, fp, norm, v, w);
         if !is_finite(c) {
             break Found::Refused(8);
         }
@@ -89,7 +82,7 @@ pub(crate) fn trials(
     answer
 }
 
-// The bounds, then the trials. At entry p is the undamped step, v the scaled step, and `norm` the norm of that.
+// The bounds, then the trials. At entry w is the undamped step, v the scaled step, and `norm` the norm of that.
 pub(crate) fn bounded(
     st: State,
     store: &mut [f64],
@@ -98,22 +91,21 @@ pub(crate) fn bounded(
     radius: f64,
     lambda: f64,
     norm: f64,
-    p: &mut [f64],
     v: &mut [f64],
+    w: &mut [f64],
 ) -> Found
     requires { ⌜ Ready st (now store) (now order) ⌝ }
-    requires { ⌜ st .held ≡ Zero ⌝ }
-    requires { ⌜ (length (now diag) ≡ st .n) × (length (now p) ≡ st .n) × (length (now v) ≡ st .n) ⌝ }
-    requires { ⌜ (norm ≡ normOf (now v)) × (now v ≡ scaledStep (problemOf st (now order) (now diag) radius (load (st .n) (now store))) (now p)) ⌝ }
-    ensures { λ r. ⌜ withStep r (now (p .exit)) ≡ concluded 0 unanswered (dampedRun (problemOf st (now (order .entry)) (now (diag .entry)) radius (load (st .n) (now (store .entry)))) lambda (now (p .entry))) ⌝ }
+    requires { ⌜ (length (now diag) ≡ st .n) × (length (now v) ≡ st .n) × (length (now w) ≡ st .n) ⌝ }
+    requires { ⌜ (norm ≡ normOf (now v)) × (now v ≡ scaledStep (problemOf st (now order) (now diag) radius (load (st .n) (now store))) (placed (problemOf st (now order) (now diag) radius (load (st .n) (now store))) (now w))) ⌝ }
+    ensures { λ r. ⌜ withStep r (placed (problemOf st (now (order .entry)) (now (diag .entry)) radius (load (st .n) (now (store .entry)))) (now (w .exit))) ≡ concluded 0 unanswered (dampedRun (problemOf st (now (order .entry)) (now (diag .entry)) radius (load (st .n) (now (store .entry)))) lambda (placed (problemOf st (now (order .entry)) (now (diag .entry)) radius (load (st .n) (now (store .entry)))) (now (w .entry)))) ⌝ }
     ensures { λ _. ⌜ emptied (load (st .n) (now (store .exit))) ≡ emptied (load (st .n) (now (store .entry))) ⌝ }
 {
     let fp = norm - radius;
-    let lower = lower_bound(st, store, order, diag, radius, fp, norm, p, v);
+    let lower = lower_bound(st, store, order, diag, radius, fp, norm, v, w);
     if !is_finite(lower) {
         return Found::Refused(8);
     }
-    let g = gradient_norm(st, store, order, diag, p);
+    let g = gradient_norm(st, store, order, diag, w);
     if !is_finite(g) {
         return Found::Refused(8);
     }
@@ -124,5 +116,5 @@ pub(crate) fn bounded(
         upper: upper,
         fp: fp,
     };
-    trials(st, store, order, diag, radius, first, p, v)
+    trials(st, store, order, diag, radius, first, v, w)
 }

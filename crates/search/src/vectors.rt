@@ -1,5 +1,4 @@
 // Document 01, module 7: what a search does with vectors of a number for each column.
-use leaves::reply::Value;
 ghost use mathlib.Core.Path.{_≡_};
 ghost use mathlib.Core.List.{map};
 ghost use Prim.Native.Nat.{ℕ, _≤_, _<_};
@@ -9,7 +8,7 @@ ghost use Rattle.leaves.specs.Number.{plusZero};
 ghost use Rattle.leaves.specs.Norm.{norm};
 ghost use Rattle.leaves.specs.Vector.{scaleAll};
 ghost use Rattle.leaves.specs.Product.{productAll};
-ghost use Rattle.factor.specs.Solve.{gather};
+ghost use Rattle.factor.specs.Solve.{gather, scatter};
 ghost use Rattle.search.specs.Bounds.{quotients};
 ghost use Rattle.search.specs.Read.{turnedBy};
 
@@ -24,58 +23,7 @@ pub(crate) fn norm_of(v: &[f64]) -> f64
     requires { ⌜ length (now v) ≤ 128 ⌝ }
     ensures { λ r. ⌜ r ≡ norm (now (v .entry)) ⌝ }
 {
-    match leaves::norm::enorm(v) {
-        Value::Is(s) => s,
-        Value::Refused(_) => 0.0,
-    }
-}
-
-pub(crate) fn scale_into(a: f64, x: &[f64], w: &mut [f64])
-    requires { ⌜ length (now x) ≡ length (now w) ⌝ }
-    ensures { λ _. ⌜ now (w .exit) ≡ scaleAll a (now (x .entry)) ⌝ }
-{
-    leaves::vector::axpy_zero(a, x, w);
-}
-
-pub(crate) fn copy_of(x: &[f64], w: &mut [f64])
-    requires { ⌜ length (now x) ≡ length (now w) ⌝ }
-    ensures { λ _. ⌜ now (w .exit) ≡ now (x .entry) ⌝ }
-{
-    leaves::vector::copy(x, w);
-}
-
-// The products of two vectors, and their norm.
-pub(crate) fn product_norm(a: &[f64], b: &[f64], w: &mut [f64]) -> f64
-    requires { ⌜ (length (now a) ≡ length (now w)) × (length (now b) ≡ length (now w)) ⌝ }
-    requires { ⌜ length (now w) ≤ 16 ⌝ }
-    ensures { λ r. ⌜ r ≡ norm (productAll (now (a .entry)) (now (b .entry))) ⌝ }
-    ensures { λ _. ⌜ now (w .exit) ≡ productAll (now (a .entry)) (now (b .entry)) ⌝ }
-{
-    product_into(a, b, w);
-    norm_of(w)
-}
-
-fn product_into(a: &[f64], b: &[f64], w: &mut [f64])
-    requires { ⌜ (length (now a) ≡ length (now w)) × (length (now b) ≡ length (now w)) ⌝ }
-    ensures { λ _. ⌜ now (w .exit) ≡ productAll (now (a .entry)) (now (b .entry)) ⌝ }
-{
-    let mut i = 0;
-    while i < a.len() {
-        w[i] = a[i] * b[i];
-        i += 1;
-    }
-}
-
-// The right side of the held solve, by column: the scaled step over its norm, times the scaling once more.
-pub(crate) fn turn_by(v: &mut [f64], norm: f64, diag: &[f64])
-    requires { ⌜ length (now v) ≡ length (now diag) ⌝ }
-    ensures { λ _. ⌜ now (v .exit) ≡ turnedBy norm (now (v .entry)) (now (diag .entry)) ⌝ }
-{
-    let mut i = 0;
-    while i < diag.len() {
-        v[i] = (v[i] / norm) * diag[i];
-        i += 1;
-    }
+    leaves::norm::norm(v)
 }
 
 // Each place over the scaling of the column that stands there.
@@ -89,5 +37,61 @@ pub(crate) fn divide_by(w: &mut [f64], order: &[usize], diag: &[f64])
         let o = order[i];
         w[i] = w[i] / diag[o];
         i += 1;
+    }
+}
+
+// A number times the scaling, in pivot order.
+pub(crate) fn scale_by(a: f64, order: &[usize], x: &[f64], w: &mut [f64])
+    requires { ⌜ (length (now x) ≡ length (now w)) × (length (now w) ≤ length (now order)) ⌝ }
+    requires { ⌜ ((k : ℕ) → k < length (now w) → getD (now order) k 0 < length (now w)) ⌝ }
+    ensures { λ _. ⌜ now (w .exit) ≡ gather (take (length (now (w .entry))) (now (order .entry))) (scaleAll a (now (x .entry))) ⌝ }
+{
+    let mut k = 0;
+    while k < w.len() {
+        let o = order[k];
+        w[k] = a * x[o];
+        k += 1;
+    }
+}
+
+// The right side of the held solve: the scaled step over its norm, times the scaling once more, in pivot order.
+pub(crate) fn turn_into(v: &[f64], norm: f64, order: &[usize], diag: &[f64], w: &mut [f64])
+    requires { ⌜ (length (now v) ≡ length (now w)) × (length (now diag) ≡ length (now w)) × (length (now w) ≤ length (now order)) ⌝ }
+    requires { ⌜ ((k : ℕ) → k < length (now w) → getD (now order) k 0 < length (now w)) ⌝ }
+    ensures { λ _. ⌜ now (w .exit) ≡ gather (take (length (now (w .entry))) (now (order .entry))) (turnedBy norm (now (v .entry)) (now (diag .entry))) ⌝ }
+{
+    let mut k = 0;
+    while k < w.len() {
+        let o = order[k];
+        w[k] = (v[o] / norm) * diag[o];
+        k += 1;
+    }
+}
+
+// Each number times the scaling of its column, at its column.
+pub(crate) fn place_scaled(order: &[usize], w: &[f64], diag: &[f64], v: &mut [f64])
+    requires { ⌜ (length (now w) ≡ length (now v)) × (length (now diag) ≡ length (now v)) × (length (now w) ≤ length (now order)) ⌝ }
+    requires { ⌜ ((k : ℕ) → k < length (now w) → getD (now order) k 0 < length (now w)) ⌝ }
+    ensures { λ _. ⌜ now (v .exit) ≡ scatter (take (length (now (w .entry))) (now (order .entry))) (productAll (now (w .entry)) (gather (take (length (now (w .entry))) (now (order .entry))) (now (diag .entry)))) (now (v .entry)) ⌝ }
+{
+    let mut k = 0;
+    while k < w.len() {
+        let o = order[k];
+        v[o] = w[k] * diag[o];
+        k += 1;
+    }
+}
+
+// Each number at its column.
+pub(crate) fn place(order: &[usize], w: &[f64], out: &mut [f64])
+    requires { ⌜ (length (now w) ≡ length (now out)) × (length (now w) ≤ length (now order)) ⌝ }
+    requires { ⌜ ((k : ℕ) → k < length (now w) → getD (now order) k 0 < length (now w)) ⌝ }
+    ensures { λ _. ⌜ now (out .exit) ≡ scatter (take (length (now (w .entry))) (now (order .entry))) (now (w .entry)) (now (out .entry)) ⌝ }
+{
+    let mut k = 0;
+    while k < w.len() {
+        let o = order[k];
+        out[o] = w[k];
+        k += 1;
     }
 }

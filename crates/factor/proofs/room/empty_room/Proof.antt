@@ -19,33 +19,19 @@ slice-aggregate-clear-below c = sym (square-of (c .before .before .args .n) (c .
 clear-below-requires : tie.Need-clear-below-requires
 clear-below-requires c κs = square-of (c .before .before .args .n) (c .before .before .args .store .now) (c .before .before .pre)
 
-clear-part-requires : tie.Need-clear-part-requires
-clear-part-requires c κs = search needs
-
-clear-part-requires-2 : tie.Need-clear-part-requires-2
-clear-part-requires-2 c κs = search needs
+clear-last-requires : tie.Need-clear-last-requires
+clear-last-requires c κs = search needs
 
 same-length : tie.Need-same-length
 same-length c = search needs
 
 returns : tie.Need-returns
 returns c =
-    let g = c .before .before .before .before .before .before .before .before .before .before .before .before .before .args in
-    let z = c .before .before .before .before .before .before .before .before .before .before .before .before .before .pre in
-    let x = c .before .before .before .before .before .before .before .before .before .before .clear-below in
+    let g = c .before .before .before .before .before .before .before .before .before .args in
+    let z = c .before .before .before .before .before .before .before .before .before .pre in
+    let x = c .before .before .before .before .before .before .clear-below in
     let q = square-lent (g .n) (x .last .0) (g .store .now) z (x .kept .0) (x .ensures .0 ∙ square-upper (g .n) (g .store .now)) (x .ensures .1 ∙ ap cleared (square-below (g .n) (g .store .now))) in
-    laid (g .n) _ (c .before .before .clear-part2 .ensures ∙ ap (λ (r : Room). withPart 3 (zeros (g .n)) r) (c .before .before .before .before .before .before .clear-part .ensures ∙ ap (λ (r : Room). withPart 2 (zeros (g .n)) r) q)
-    ∙ emptied-as (g .n) _ (load-shaped (g .n) (g .store .now) z))
+    laid (g .n) _ (c .before .before .clear-last .ensures ∙ ap (λ (r : Room). withPart 3 (zeros (g .n)) (withPart 2 (zeros (g .n)) r)) q ∙ emptied-as (g .n) _ (load-shaped (g .n) (g .store .now) z))
 
 pub empty-room-spec : {M : Type 1} → statement M
-empty-room-spec =
-    tie.close
-    (tie.spec
-    mul-whole
-    slice-relend-prefix-clear-below
-    slice-aggregate-clear-below
-    clear-below-requires
-    clear-part-requires
-    clear-part-requires-2
-    same-length
-    returns)
+empty-room-spec = tie.close (tie.spec mul-whole slice-relend-prefix-clear-below slice-aggregate-clear-below clear-below-requires clear-last-requires same-length returns)

@@ -1,80 +1,19 @@
 -- `leaves::norm::enorm` meets its contract. Assumes nothing.
-use Prim.Native.Nat.{_+_, _*_, _-_, _≤_, _<_}
-use mathlib.Core.Path.{_≡_, refl, sym, ap, _∙_}
-use native.Mathlib.Omega.{arith}
+use mathlib.Core.Path.{ap, _∙_}
 use borrow.Author.Needs.{needs}
-use Prim.Native.Nat.{_^_}
-use lib.Dec.{le→leb}
-use lib.ListN.{length, drop}
-use lib.Ieee.{inFloat, ofBits, round}
 use Rattle.leaves.specs.Reply.{answered}
-use Rattle.leaves.specs.Norm.{agiant as agiantOf, rgiant, accumulate, none}
-use Rattle.leaves.proofs.Norms.{accumulate-step, accumulate-end, enorm-refused, enorm-is, norm-is}
+use Rattle.leaves.proofs.Norms.{enorm-refused, enorm-is}
 use Rattle.leaves.proofs.norm.enorm.Statement.{statement}
 use Rattle.leaves.proofs.norm.enorm.Tie as tie
 
-abbrev Inv-loop : tie.InvT-loop
-Inv-loop v n agiant t₀ i₀ t i = (length v ≤ 128) × (i ≤ length v) × (agiant ≡ agiantOf (length v)) × (accumulate agiant t (drop i v) ≡ accumulate agiant none v)
-
-abbrev μ-loop : tie.MeasureT-loop
-μ-loop v n agiant t₀ i₀ t i = length v - i
-
-returns : tie.Need-returns Inv-loop μ-loop
+returns : tie.Need-returns
 returns c = enorm-refused _ (c .if1 .taken)
 
-int-to-float-agiant : tie.Need-int-to-float-agiant Inv-loop μ-loop
-unfolding inFloat
-int-to-float-agiant c = le→leb (length (c .before .before .before .args .v .now)) (2 ^ 53) (omega arith)
+sum-up-requires : tie.Need-sum-up-requires
+sum-up-requires c κs = search needs
 
-loop-holds : tie.Need-loop-holds Inv-loop μ-loop
-unfolding agiantOf rgiant round ofBits
-loop-holds c = (search needs, search needs, refl, refl)
-
-mul-step : tie.Need-mul-step Inv-loop μ-loop
-mul-step c = search needs
-
-shared-slice-read-step : tie.Need-shared-slice-read-step Inv-loop μ-loop
-shared-slice-read-step c = search needs
-
-step-requires : tie.Need-step-requires Inv-loop μ-loop
-step-requires c κs = search needs
-
-add-i : tie.Need-add-i Inv-loop μ-loop
-add-i c = search needs
-
-loop-less : tie.Need-loop-less Inv-loop μ-loop
-loop-less c = search needs
-
-loop-again : tie.Need-loop-again Inv-loop μ-loop
-loop-again c =
-    let l = c .before .before .before .loop in
-    let h = c .before .before .loop-test .taken in
-    (l .inv .0, search needs, l .inv .2, rw (c .step .ensures) (accumulate-step _ (l .t) _ (l .i) h ∙ l .inv .3))
-
-finish-requires : tie.Need-finish-requires Inv-loop μ-loop
-finish-requires c κs = search needs
-
-returns-2 : tie.Need-returns-2 Inv-loop μ-loop
-returns-2 c =
-    let l = c .before .before .loop in
-    let v = c .before .before .before .before .before .before .args .v .now in
-    let last = sym (accumulate-end _ (l .t) v (l .i) (c .before .loop-test .left)) ∙ l .inv .3 in
-    ap answered (c .finish .ensures ∙ norm-is v _ (l .t) (l .inv .2) last) ∙ enorm-is v (l .inv .0)
+returns-2 : tie.Need-returns-2
+returns-2 c = ap answered (c .sum-up .ensures) ∙ enorm-is _ (c .before .if1 .left)
 
 pub enorm-spec : {M : Type 1} → statement M
-enorm-spec =
-    tie.close
-    (tie.spec
-    Inv-loop
-    μ-loop
-    returns
-    int-to-float-agiant
-    loop-holds
-    mul-step
-    shared-slice-read-step
-    step-requires
-    add-i
-    loop-less
-    loop-again
-    finish-requires
-    returns-2)
+enorm-spec = tie.close (tie.spec returns sum-up-requires returns-2)

@@ -1,30 +1,39 @@
 -- `search::steps::damped` meets its contract. Assumes nothing.
-use mathlib.Core.Path.{_≡_, refl, sym, ap, _∙_}
+use mathlib.Core.Path.{sym, ap, _∙_}
+use Prim.Native.Nat.{ℕ}
 use native.Mathlib.Omega.{arith}
 use borrow.Author.Needs.{needs}
-use Rattle.leaves.specs.Norm.{norm}
-use Rattle.search.proofs.Lists.{by-scaling}
-use Rattle.search.proofs.Workings.{few, damped-store, damped-step}
-use Rattle.leaves.specs.Vector.{scaleAll}
+use lib.ListN.{take}
+use lib.Ieee.{Float}
 use Rattle.leaves.specs.Number.{plusZero}
+use Rattle.leaves.specs.Vector.{scaleAll}
+use Rattle.factor.specs.Solve.{gather}
+use Rattle.search.proofs.Workings.{few, order-long, order-below, damped-store, damped-placed, scaled-placed}
 use Rattle.search.proofs.steps.damped.Statement.{statement}
 use Rattle.search.proofs.steps.damped.Tie as tie
 
 sqrt-requires : tie.Need-sqrt-requires
 sqrt-requires c κs = search needs
 
-scale-into-requires : tie.Need-scale-into-requires
-scale-into-requires c κs = search needs
+scale-by-requires : tie.Need-scale-by-requires
+scale-by-requires c κs =
+    let g = c .before .before .before .before .before .before .before in
+    ((g .pre .1 .0 ∙ sym (g .pre .1 .1), omega (arith, g .pre .1 .1, order-long (g .args .st) (g .args .store .now) (g .args .order .now) (g .pre .0))), rw (g .pre .1 .1) (order-below (g .args .st) (g .args .store .now) (g .args .order .now) (g .pre .0)))
 
-damped-working-requires : tie.Need-damped-working-requires
-damped-working-requires c κs = search needs
+damped-requires : tie.Need-damped-requires
+damped-requires c κs = search needs
 
-product-norm-requires : tie.Need-product-norm-requires
-product-norm-requires c κs =
+place-scaled-requires : tie.Need-place-scaled-requires
+place-scaled-requires c κs =
     let g = c .before .before .before .before .before .before .before .before .before .before .before .before .before .before .before .before .before .before .before .before in
-    let e = c .before .before .before .before .before .before .damped-working .kept .1 .1 .1 .1 .0 in
-    let v = c .before .before .before .before .before .before .before .before .before .before .before .before .scale-into .kept .1 .1 .0 in
-    ((e ∙ g .pre .1 .1 ∙ sym (v ∙ g .pre .1 .2), g .pre .1 .0 ∙ sym (v ∙ g .pre .1 .2)), omega (arith, few (g .args .st) (g .args .store .now) (g .args .order .now) (g .pre .0), v ∙ g .pre .1 .2))
+    let l = c .before .before .before .before .before .before .damped .kept .1 .1 .1 .0 ∙ g .pre .1 .2 in
+    let v = c .before .before .before .before .before .before .before .before .before .before .before .before .scale-by .kept .1 .1 .1 .0 ∙ g .pre .1 .1 in
+    ((l ∙ sym v, g .pre .1 .0 ∙ sym v, omega (arith, l, order-long (g .args .st) (g .args .store .now) (g .args .order .now) (g .pre .0))), rw l (order-below (g .args .st) (g .args .store .now) (g .args .order .now) (g .pre .0)))
+
+norm-of-requires : tie.Need-norm-of-requires
+norm-of-requires c κs =
+    let g = c .before .before .before .before .before .before .before .before .before .before .before .before .before .before .before .before .before .before .before .before .before .before .before .before in
+    omega (arith, c .before .before .before .place-scaled .kept .1 .1 .1 .0 ∙ c .before .before .before .before .before .before .before .before .before .before .before .before .before .before .before .before .scale-by .kept .1 .1 .1 .0 ∙ g .pre .1 .1, few (g .args .st) (g .args .store .now) (g .args .order .now) (g .pre .0))
 
 same-length : tie.Need-same-length
 same-length c = search needs
@@ -37,28 +46,26 @@ same-length-3 c = search needs
 
 returns : tie.Need-returns
 returns c =
-    let g = c .before .before .before .before .before .before .before .before .before .before .before .before .before .before .before .before .before .before .before .before .before .before .before in
-    let k = c .before .before .before .before .before .before .before .before .before .damped-working .ensures in
-    let p = c .before .before .product-norm .ensures in
-    let s = c .before .before .before .before .before .before .before .before .before .before .before .before .before .before .before .scale-into in
-    let v = s .ensures ∙ ap (λ r. scaleAll r (g .args .diag .now)) (c .before .before .before .before .before .before .before .before .before .before .before .before .before .before .before .before .before .sqrt .ensures) in
-    let l = s .kept .1 .1 .0 ∙ g .pre .1 .2 in (
-      p .0 ∙ ap norm (sym (p .1)),
+    let g = c .before .before .before .before .before .before .before .before .before .before .before .before .before .before .before .before .before .before .before .before .before .before .before .before .before in
+    let d = c .before .before .before .before .before .before .before .before .before .before .before .damped in
+    let s = c .before .before .before .before .before .before .before .before .before .before .before .before .before .before .before .before .before .scale-by in
+    let q = c .before .before .before .before .before .before .before .before .before .before .before .before .before .before .before .before .before .before .before .sqrt in
+    let l = d .kept .1 .1 .1 .0 ∙ g .pre .1 .2 in
+    let v = s .kept .1 .1 .1 .0 ∙ g .pre .1 .1 in
+    let e =
+    s .ensures
+    ∙ ap (λ (k : ℕ). gather (take k (g .args .order .now)) (scaleAll (q .result) (g .args .diag .now))) (g .pre .1 .1)
+    ∙ ap (λ (r : Float). gather (take (g .args .st .n) (g .args .order .now)) (scaleAll r (g .args .diag .now))) (q .ensures)
+    in (
+      c .norm-of .ensures,
       (
-        by-scaling _ _ _ (g .pre .1 .0) (p .1),
-        (damped-step _ _ _ (g .pre .0) (g .args .diag .now) _ _ (g .args .lambda) (g .pre .1 .0) l (g .pre .1 .1) v k plusZero, damped-store _ _ _ (g .pre .0) (g .args .diag .now) _ _ (g .args .lambda) (g .pre .1 .0) l (g .pre .1 .1) v k plusZero),
+        scaled-placed (g .args .st) (g .args .store .now) (g .args .order .now) (g .pre .0) (g .args .diag .now) _ _ plusZero (g .pre .1 .0) v l (c .before .before .before .before .place-scaled .ensures),
+        (
+          damped-placed (g .args .st) (g .args .store .now) (g .args .order .now) (g .pre .0) (g .args .diag .now) (g .args .lambda) (g .pre .1 .0) _ _ e (g .pre .1 .2) (d .ensures) plusZero,
+          damped-store (g .args .st) (g .args .store .now) (g .args .order .now) (g .pre .0) (g .args .diag .now) (g .args .lambda) (g .pre .1 .0) _ _ e (g .pre .1 .2) (d .ensures) plusZero,
+        ),
       ),
     )
 
 pub damped-spec : {M : Type 1} → statement M
-damped-spec =
-    tie.close
-    (tie.spec
-    sqrt-requires
-    scale-into-requires
-    damped-working-requires
-    product-norm-requires
-    same-length
-    same-length-2
-    same-length-3
-    returns)
+damped-spec = tie.close (tie.spec sqrt-requires scale-by-requires damped-requires place-scaled-requires norm-of-requires same-length same-length-2 same-length-3 returns)

@@ -1,21 +1,25 @@
 -- `search::steps::undamped` meets its contract. Assumes nothing.
-use mathlib.Core.Path.{_≡_, refl, sym, ap, _∙_}
+use mathlib.Core.Path.{sym, _∙_}
 use native.Mathlib.Omega.{arith}
 use borrow.Author.Needs.{needs}
-use Rattle.leaves.specs.Norm.{norm}
-use Rattle.search.proofs.Lists.{by-scaling}
-use Rattle.search.proofs.Workings.{few, zero-store, zero-step}
+use Rattle.leaves.specs.Number.{plusZero}
+use Rattle.search.proofs.Workings.{few, order-long, order-below, zero-numbers, undamped-placed, scaled-placed}
 use Rattle.search.proofs.steps.undamped.Statement.{statement}
 use Rattle.search.proofs.steps.undamped.Tie as tie
 
-zero-working-requires : tie.Need-zero-working-requires
-zero-working-requires c κs = search needs
+zero-requires : tie.Need-zero-requires
+zero-requires c κs = search needs
 
-product-norm-requires : tie.Need-product-norm-requires
-product-norm-requires c κs =
-    let g = c .before .before .before .before .before .before .before .before .before .before .before .before .before .before in
-    let e = c .before .before .before .before .before .before .zero-working .kept .1 .1 .1 .0 in
-    ((e ∙ g .pre .1 .1 ∙ sym (g .pre .1 .2), g .pre .1 .0 ∙ sym (g .pre .1 .2)), omega (arith, few (g .args .st) (g .args .store .now) (g .args .order .now) (g .pre .0), g .pre .1 .2))
+place-scaled-requires : tie.Need-place-scaled-requires
+place-scaled-requires c κs =
+    let g = c .before .before .before .before .before .before .before .before .before .before .before in
+    let l = c .before .before .before .before .zero .kept .1 .1 .0 ∙ g .pre .1 .2 in
+    ((l ∙ sym (g .pre .1 .1), g .pre .1 .0 ∙ sym (g .pre .1 .1), omega (arith, l, order-long (g .args .st) (g .args .store .now) (g .args .order .now) (g .pre .0))), rw l (order-below (g .args .st) (g .args .store .now) (g .args .order .now) (g .pre .0)))
+
+norm-of-requires : tie.Need-norm-of-requires
+norm-of-requires c κs =
+    let g = c .before .before .before .before .before .before .before .before .before .before .before .before .before .before .before in
+    omega (arith, c .before .before .before .place-scaled .kept .1 .1 .1 .0 ∙ g .pre .1 .1, few (g .args .st) (g .args .store .now) (g .args .order .now) (g .pre .0))
 
 same-length : tie.Need-same-length
 same-length c = search needs
@@ -23,25 +27,17 @@ same-length c = search needs
 same-length-2 : tie.Need-same-length-2
 same-length-2 c = search needs
 
-same-length-3 : tie.Need-same-length-3
-same-length-3 c = search needs
-
 returns : tie.Need-returns
 returns c =
-    let g = c .before .before .before .before .before .before .before .before .before .before .before .before .before .before .before .before .before in
-    let k = c .before .before .before .before .before .before .before .before .before .zero-working .ensures in
-    let p = c .before .before .product-norm .ensures in (
-      p .0 ∙ ap norm (sym (p .1)),
-      (by-scaling _ _ _ (g .pre .1 .0) (p .1), (zero-step _ _ _ (g .pre .0) _ (g .pre .1 .1) k _ _, zero-store _ _ _ (g .pre .0) _ (g .pre .1 .1) k)),
+    let g = c .before .before .before .before .before .before .before .before .before .before .before .before .before .before .before .before in
+    let z = c .before .before .before .before .before .before .before .before .before .zero in
+    let l = z .kept .1 .1 .0 ∙ g .pre .1 .2 in (
+      c .norm-of .ensures,
+      (
+        scaled-placed (g .args .st) (g .args .store .now) (g .args .order .now) (g .pre .0) (g .args .diag .now) _ _ plusZero (g .pre .1 .0) (g .pre .1 .1) l (c .before .before .before .before .place-scaled .ensures),
+        undamped-placed (g .args .st) (g .args .store .now) (g .args .order .now) (g .pre .0) (g .args .diag .now) _ plusZero (zero-numbers (g .args .st) (g .args .store .now) (g .args .order .now) (g .pre .0) _ (g .pre .1 .2) (z .ensures)),
+      ),
     )
 
 pub undamped-spec : {M : Type 1} → statement M
-undamped-spec =
-    tie.close
-    (tie.spec
-    zero-working-requires
-    product-norm-requires
-    same-length
-    same-length-2
-    same-length-3
-    returns)
+undamped-spec = tie.close (tie.spec zero-requires place-scaled-requires norm-of-requires same-length same-length-2 returns)

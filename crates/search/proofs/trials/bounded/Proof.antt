@@ -1,24 +1,20 @@
 -- `search::trials::bounded` meets its contract. Assumes nothing.
 use mathlib.Core.Path.{_≡_, refl, sym, ap, _∙_}
-use native.Mathlib.Omega.{arith}
 use borrow.Author.Needs.{needs}
 use borrow.Author.Tests.{not-true, not-false}
 use lib.Ieee.{Float, binary64, sub}
 use Rattle.leaves.specs.Norm.{norm}
 use Rattle.factor.specs.Room.{load}
+use Rattle.search.specs.Problem.{placed}
 use Rattle.search.specs.Bounds.{lowerBound}
 use Rattle.search.specs.Search.{problemOf}
 use Rattle.search.specs.Read.{unanswered}
-use Rattle.search.proofs.Workings.{ready-after}
-use Rattle.search.proofs.Turning.{same-problem}
-use Rattle.search.proofs.Bounding.{rested-kept, lower-asked, gnorm-asked, no-lower, no-gnorm, to-trials, first-is, asked-trials, zero-holds}
+use Rattle.search.proofs.Bounding.{lower-asked, gnorm-asked, no-lower, no-gnorm, to-trials, first-is, asked-trials}
 use Rattle.search.proofs.trials.bounded.Statement.{statement}
 use Rattle.search.proofs.trials.bounded.Tie as tie
 
 lower-bound-requires : tie.Need-lower-bound-requires
-lower-bound-requires c κs =
-    let g = c .before .before .before .before .before .before .before .before in
-    (g .pre .0, (zero-holds (g .pre .1 .0), g .pre .1 .1 .0))
+lower-bound-requires c κs = (c .before .before .before .before .before .before .before .before .pre .0, c .before .before .before .before .before .before .before .before .pre .1 .0)
 
 is-finite-requires : tie.Need-is-finite-requires
 is-finite-requires c κs = search needs
@@ -34,22 +30,19 @@ same-length-3 c = search needs
 
 returns : tie.Need-returns
 returns c =
-    let g = c .before .before .before .before .before .before .before .before .before .before .before .before .before .before .before .before .before in
-    let low = c .before .before .before .before .before .before .before .before .lower-bound in
-    let s = low .last .1 .0 in
+    let g = c .before .before .before .before .before .before .before .before .before .before .before .before .before in
+    let low = c .before .before .before .before .lower-bound in
     let asked = problemOf (g .args .st) (g .args .order .now) (g .args .diag .now) (g .args .radius) (load (g .args .st .n) (g .args .store .now)) in
-    let nrm = g .pre .1 .1 .1 .0 ∙ ap norm (g .pre .1 .1 .1 .1) in
-    let l = lower-asked (g .args .st) (g .args .store .now) (g .args .order .now) (g .pre .0) (g .args .diag .now) (g .pre .1 .1 .0 .0) (g .args .radius) (g .pre .1 .0) _ _ (g .args .p .now) (g .args .v .now) (g .pre .1 .1 .1 .0) (g .pre .1 .1 .1 .1) (low .ensures .0)
-    ∙ ap (λ (x : Float). lowerBound asked (g .args .p .now) (sub binary64 x (g .args .radius))) nrm in
-    let kept = rested-kept (g .args .st) (g .args .store .now) (g .args .order .now) (g .pre .0) s (low .ensures .1) in
-    let ready = ready-after (g .args .st) (g .args .store .now) (g .args .order .now) (g .pre .0) s (low .kept .1 .0) in
-    (no-lower (asked) (g .args .lambda) (g .args .p .now) unanswered l (sym (c .before .is-finite .ensures) ∙ not-true _ (c .if1 .taken)), kept)
+    let step = placed asked (g .args .w .now) in
+    let nrm = g .pre .1 .1 .0 ∙ ap norm (g .pre .1 .1 .1) in
+    let l = lower-asked (g .args .st) (g .args .store .now) (g .args .order .now) (g .pre .0) (g .args .diag .now) (g .pre .1 .0 .0) (g .args .radius) _ _ step (g .args .v .now) (g .pre .1 .1 .0) (g .pre .1 .1 .1) (low .ensures)
+    ∙ ap (λ (x : Float). lowerBound asked step (sub binary64 x (g .args .radius))) nrm in
+    (no-lower asked (g .args .lambda) step unanswered l (sym (c .before .is-finite .ensures) ∙ not-true _ (c .if1 .taken)), refl)
 
 gradient-norm-requires : tie.Need-gradient-norm-requires
 gradient-norm-requires c κs =
-    let g = c .before .before .before .before .before .before .before .before .before .before .before .before .before .before .before .before .before .before .before in
-    let low = c .before .before .before .before .before .before .before .before .before .before .lower-bound in
-    (ready-after (g .args .st) (g .args .store .now) (g .args .order .now) (g .pre .0) (low .last .1 .0) (low .kept .1 .0), (g .pre .1 .0, (g .pre .1 .1 .0 .0, low .kept .1 .1 .1 .1 .1 .1 .1 .0 ∙ g .pre .1 .1 .0 .1)))
+    let g = c .before .before .before .before .before .before .before .before .before .before .before .before .before .before .before in
+    (g .pre .0, (g .pre .1 .0 .0, c .before .before .before .before .before .before .lower-bound .kept .1 .1 .1 .1 .1 .1 .1 .1 .0 ∙ g .pre .1 .0 .2))
 
 is-finite-requires-2 : tie.Need-is-finite-requires-2
 is-finite-requires-2 c κs = search needs
@@ -65,20 +58,15 @@ same-length-6 c = search needs
 
 returns-2 : tie.Need-returns-2
 returns-2 c =
-    let g = c .before .before .before .before .before .before .before .before .before .before .before .before .before .before .before .before .before .before .before .before .before .before .before .before .before .before in
-    let low = c .before .before .before .before .before .before .before .before .before .before .before .before .before .before .before .before .before .lower-bound in
-    let s = low .last .1 .0 in
+    let g = c .before .before .before .before .before .before .before .before .before .before .before .before .before .before .before .before .before .before .before .before in
+    let low = c .before .before .before .before .before .before .before .before .before .before .before .lower-bound in
     let asked = problemOf (g .args .st) (g .args .order .now) (g .args .diag .now) (g .args .radius) (load (g .args .st .n) (g .args .store .now)) in
-    let nrm = g .pre .1 .1 .1 .0 ∙ ap norm (g .pre .1 .1 .1 .1) in
-    let l = lower-asked (g .args .st) (g .args .store .now) (g .args .order .now) (g .pre .0) (g .args .diag .now) (g .pre .1 .1 .0 .0) (g .args .radius) (g .pre .1 .0) _ _ (g .args .p .now) (g .args .v .now) (g .pre .1 .1 .1 .0) (g .pre .1 .1 .1 .1) (low .ensures .0)
-    ∙ ap (λ (x : Float). lowerBound asked (g .args .p .now) (sub binary64 x (g .args .radius))) nrm in
-    let kept = rested-kept (g .args .st) (g .args .store .now) (g .args .order .now) (g .pre .0) s (low .ensures .1) in
-    let ready = ready-after (g .args .st) (g .args .store .now) (g .args .order .now) (g .pre .0) s (low .kept .1 .0) in
-    let grad = c .before .before .before .before .before .before .gradient-norm in
-    let s₂ = grad .last .1 .0 in
-    let q = gnorm-asked (g .args .st) (g .args .store .now) (g .args .order .now) (g .pre .0) (g .args .diag .now) (g .pre .1 .1 .0 .0) (g .args .radius) (g .pre .1 .0) s kept (grad .ensures .0) in
-    let kept₂ = rested-kept (g .args .st) s (g .args .order .now) ready s₂ (grad .ensures .1) ∙ kept in
-    (no-gnorm (asked) (g .args .lambda) (g .args .p .now) unanswered l (sym (c .before .before .before .before .before .before .before .before .before .before .is-finite .ensures) ∙ not-false _ (c .before .before .before .before .before .before .before .before .before .if1 .left)) q (sym (c .before .is-finite2 .ensures) ∙ not-true _ (c .if2 .taken)), kept₂)
+    let step = placed asked (g .args .w .now) in
+    let nrm = g .pre .1 .1 .0 ∙ ap norm (g .pre .1 .1 .1) in
+    let l = lower-asked (g .args .st) (g .args .store .now) (g .args .order .now) (g .pre .0) (g .args .diag .now) (g .pre .1 .0 .0) (g .args .radius) _ _ step (g .args .v .now) (g .pre .1 .1 .0) (g .pre .1 .1 .1) (low .ensures)
+    ∙ ap (λ (x : Float). lowerBound asked step (sub binary64 x (g .args .radius))) nrm in
+    let q = gnorm-asked (g .args .st) (g .args .store .now) (g .args .order .now) (g .pre .0) (g .args .diag .now) (g .pre .1 .0 .0) (g .args .radius) (c .before .before .before .before .gradient-norm .ensures) in
+    (no-gnorm asked (g .args .lambda) step unanswered l (sym (c .before .before .before .before .before .before .before .before .is-finite .ensures) ∙ not-false _ (c .before .before .before .before .before .before .before .if1 .left)) q (sym (c .before .is-finite2 .ensures) ∙ not-true _ (c .if2 .taken)), refl)
 
 upper-bound-requires : tie.Need-upper-bound-requires
 upper-bound-requires c κs = search needs
@@ -88,10 +76,8 @@ first-lambda-requires c κs = search needs
 
 trials-requires : tie.Need-trials-requires
 trials-requires c κs =
-    let g = c .before .before .before .before .before .before .before .before .before .before .before .before .before .before .before .before .before .before .before .before .before .before .before .before .before .before .before .before .before .before .before in
-    let low = c .before .before .before .before .before .before .before .before .before .before .before .before .before .before .before .before .before .before .before .before .before .before .lower-bound in
-    let grad = c .before .before .before .before .before .before .before .before .before .before .before .gradient-norm in
-    (ready-after (g .args .st) (g .args .store .now) (g .args .order .now) (g .pre .0) (grad .last .1 .0) (grad .kept .1 .0 ∙ low .kept .1 .0), (g .pre .1 .1 .0 .0, grad .kept .1 .1 .1 .1 .0 ∙ low .kept .1 .1 .1 .1 .1 .1 .1 .0 ∙ g .pre .1 .1 .0 .1, low .kept .1 .1 .1 .1 .1 .1 .1 .1 .0 ∙ g .pre .1 .1 .0 .2))
+    let g = c .before .before .before .before .before .before .before .before .before .before .before .before .before .before .before .before .before .before .before .before .before .before .before .before .before in
+    (g .pre .0, (g .pre .1 .0 .0, g .pre .1 .0 .1, c .before .before .before .before .before .before .before .before .before .gradient-norm .kept .1 .1 .1 .1 .0 ∙ c .before .before .before .before .before .before .before .before .before .before .before .before .before .before .before .before .lower-bound .kept .1 .1 .1 .1 .1 .1 .1 .1 .0 ∙ g .pre .1 .0 .2))
 
 same-length-7 : tie.Need-same-length-7
 same-length-7 c = search needs
@@ -104,23 +90,17 @@ same-length-9 c = search needs
 
 returns-3 : tie.Need-returns-3
 returns-3 c =
-    let g = c .before .before .before .before .before .before .before .before .before .before .before .before .before .before .before .before .before .before .before .before .before .before .before .before .before .before .before .before .before .before .before .before .before .before .before .before .before .before in
-    let low = c .before .before .before .before .before .before .before .before .before .before .before .before .before .before .before .before .before .before .before .before .before .before .before .before .before .before .before .before .before .lower-bound in
-    let s = low .last .1 .0 in
+    let g = c .before .before .before .before .before .before .before .before .before .before .before .before .before .before .before .before .before .before .before .before .before .before .before .before .before .before .before .before .before .before .before .before in
+    let low = c .before .before .before .before .before .before .before .before .before .before .before .before .before .before .before .before .before .before .before .before .before .before .before .lower-bound in
     let asked = problemOf (g .args .st) (g .args .order .now) (g .args .diag .now) (g .args .radius) (load (g .args .st .n) (g .args .store .now)) in
-    let nrm = g .pre .1 .1 .1 .0 ∙ ap norm (g .pre .1 .1 .1 .1) in
-    let l = lower-asked (g .args .st) (g .args .store .now) (g .args .order .now) (g .pre .0) (g .args .diag .now) (g .pre .1 .1 .0 .0) (g .args .radius) (g .pre .1 .0) _ _ (g .args .p .now) (g .args .v .now) (g .pre .1 .1 .1 .0) (g .pre .1 .1 .1 .1) (low .ensures .0)
-    ∙ ap (λ (x : Float). lowerBound asked (g .args .p .now) (sub binary64 x (g .args .radius))) nrm in
-    let kept = rested-kept (g .args .st) (g .args .store .now) (g .args .order .now) (g .pre .0) s (low .ensures .1) in
-    let ready = ready-after (g .args .st) (g .args .store .now) (g .args .order .now) (g .pre .0) s (low .kept .1 .0) in
-    let grad = c .before .before .before .before .before .before .before .before .before .before .before .before .before .before .before .before .before .before .gradient-norm in
-    let s₂ = grad .last .1 .0 in
-    let q = gnorm-asked (g .args .st) (g .args .store .now) (g .args .order .now) (g .pre .0) (g .args .diag .now) (g .pre .1 .1 .0 .0) (g .args .radius) (g .pre .1 .0) s kept (grad .ensures .0) in
-    let kept₂ = rested-kept (g .args .st) s (g .args .order .now) ready s₂ (grad .ensures .1) ∙ kept in
+    let step = placed asked (g .args .w .now) in
+    let nrm = g .pre .1 .1 .0 ∙ ap norm (g .pre .1 .1 .1) in
+    let l = lower-asked (g .args .st) (g .args .store .now) (g .args .order .now) (g .pre .0) (g .args .diag .now) (g .pre .1 .0 .0) (g .args .radius) _ _ step (g .args .v .now) (g .pre .1 .1 .0) (g .pre .1 .1 .1) (low .ensures)
+    ∙ ap (λ (x : Float). lowerBound asked step (sub binary64 x (g .args .radius))) nrm in
+    let q = gnorm-asked (g .args .st) (g .args .store .now) (g .args .order .now) (g .pre .0) (g .args .diag .now) (g .pre .1 .0 .0) (g .args .radius) (c .before .before .before .before .before .before .before .before .before .before .before .before .before .before .before .before .gradient-norm .ensures) in
     let t = c .before .before .before .before .before .before .trials .ensures in
-    let f = first-is (asked) (g .args .lambda) (g .args .p .now) unanswered nrm l q (c .before .before .before .before .before .before .before .before .before .before .before .upper-bound .ensures) (c .before .before .before .before .before .before .before .before .before .before .first-lambda .ensures) in
-    let e = asked-trials _ asked _ _ unanswered (t .0) (same-problem (g .args .st) (g .args .order .now) (g .args .diag .now) (g .args .radius) (load (g .args .st .n) s₂) (load (g .args .st .n) (g .args .store .now)) kept₂) f in
-    (to-trials (asked) (g .args .lambda) (g .args .p .now) unanswered l (sym (c .before .before .before .before .before .before .before .before .before .before .before .before .before .before .before .before .before .before .before .before .before .before .is-finite .ensures) ∙ not-false _ (c .before .before .before .before .before .before .before .before .before .before .before .before .before .before .before .before .before .before .before .before .before .if1 .left)) q (sym (c .before .before .before .before .before .before .before .before .before .before .before .before .before .is-finite2 .ensures) ∙ not-false _ (c .before .before .before .before .before .before .before .before .before .before .before .before .if2 .left)) e, t .1 ∙ kept₂)
+    let f = first-is asked (g .args .lambda) step unanswered nrm l q (c .before .before .before .before .before .before .before .before .before .before .before .upper-bound .ensures) (c .before .before .before .before .before .before .before .before .before .before .first-lambda .ensures) in
+    (to-trials asked (g .args .lambda) step unanswered l (sym (c .before .before .before .before .before .before .before .before .before .before .before .before .before .before .before .before .before .before .before .before .is-finite .ensures) ∙ not-false _ (c .before .before .before .before .before .before .before .before .before .before .before .before .before .before .before .before .before .before .before .if1 .left)) q (sym (c .before .before .before .before .before .before .before .before .before .before .before .before .before .is-finite2 .ensures) ∙ not-false _ (c .before .before .before .before .before .before .before .before .before .before .before .before .if2 .left)) (asked-trials asked _ _ unanswered (t .0) f), t .1)
 
 pub bounded-spec : {M : Type 1} → statement M
 bounded-spec =

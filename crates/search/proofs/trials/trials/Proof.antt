@@ -1,7 +1,7 @@
 -- `search::trials::trials` meets its contract. Assumes nothing.
-use Prim.Native.Nat.{ℕ, suc, _+_, _-_, _≤_}
+use Prim.Native.Nat.{suc, _+_, _-_, _≤_}
 use mathlib.Core.Path.{_≡_, refl, sym, ap, _∙_}
-use mathlib.Core.Bool.{true, false}
+use mathlib.Core.Bool.{true}
 use mathlib.Core.List.{List}
 use native.Mathlib.Numerals.{add-one}
 use native.Mathlib.Omega.{arith}
@@ -11,30 +11,28 @@ use lib.ListN.{length}
 use lib.Ieee.{Float}
 use Rattle.leaves.specs.Norm.{norm}
 use Rattle.leaves.specs.Number.{isFinite}
-use Rattle.leaves.specs.Reply.{answered}
 use Rattle.factor.specs.Room.{load, emptied}
-use Rattle.factor.specs.declared.state.Held.the-variants as held
-use Rattle.search.specs.Problem.{Problem, newton, dampedSlope}
-use Rattle.search.specs.Run.{Next, trialsFrom}
-use Rattle.search.specs.Search.{problemOf, answer, concluded}
+use Rattle.search.specs.Problem.{Problem, placed, scaledStep}
+use Rattle.search.specs.Run.{trialsFrom}
+use Rattle.search.specs.Search.{problemOf, concluded}
 use Rattle.search.specs.Read.{Ready, unanswered, nextOf, bare}
 use Rattle.search.proofs.Trying.{Tried, at-lambda, at-norm, at-ten, at-within, at-falling, at-correction, goes-on, again, next-same, mine, told}
-use Rattle.search.proofs.Workings.{ready-after, ready-held, shaped}
-use Rattle.search.proofs.Turning.{step-asked, damped-kept, correction-asked, corrected-kept}
+use Rattle.search.proofs.Workings.{ready-after}
+use Rattle.search.proofs.Turning.{step-asked, scaled-asked, damped-kept, correction-asked}
 use Rattle.search.proofs.trials.trials.Statement.{statement}
 use Rattle.search.proofs.trials.trials.Tie as tie
 
 abbrev Inv-loop : tie.InvT-loop
-Inv-loop st store₀ order diag radius p₀ v₀ after s₀ t₀ store p v s t =
+Inv-loop st store₀ order diag radius v₀ w₀ s₀ t₀ store v w s t =
     (t ≤ 9)
     × (length store ≡ length store₀)
-    × (length p ≡ length p₀)
     × (length v ≡ length v₀)
+    × (length w ≡ length w₀)
     × (emptied (load (st .n) store) ≡ emptied (load (st .n) store₀))
     × (concluded t unanswered (trialsFrom (problemOf st order diag radius (load (st .n) store₀)) (9 - t) (nextOf s)) ≡ concluded 0 unanswered (trialsFrom (problemOf st order diag radius (load (st .n) store₀)) 9 (nextOf s₀)))
 
 abbrev μ-loop : tie.MeasureT-loop
-μ-loop st store₀ order diag radius p₀ v₀ after s₀ t₀ store p v s t = 9 - t
+μ-loop st store₀ order diag radius v₀ w₀ s₀ t₀ store v w s t = 9 - t
 
 -- ---- at the loop
 abbrev problem : tie.At-loop Inv-loop μ-loop → Problem
@@ -53,20 +51,28 @@ lambda₁ c = c .before .before .before .before .before .before .raised-of .resu
 abbrev store₁ : tie.After-damped Inv-loop μ-loop → List Float
 store₁ c = c .damped .last .1 .0
 
-abbrev p₁ : tie.After-damped Inv-loop μ-loop → List Float
-p₁ c = c .damped .last .1 .1 .1 .1 .1 .0
+abbrev w₁ : tie.After-damped Inv-loop μ-loop → List Float
+w₁ c = c .damped .last .1 .1 .1 .1 .1 .1 .0
+
+abbrev step₁ : tie.After-damped Inv-loop μ-loop → List Float
+step₁ c = placed (problem (at₁ c)) (w₁ c)
 
 finite₁ : (c : tie.After-damped Inv-loop μ-loop) → isFinite (lambda₁ c) ≡ true
 finite₁ c = sym (c .before .before .before .before .before .is-finite .ensures) ∙ not-false _ (c .before .before .before .before .if1 .left)
 
-tried₁ : (c : tie.After-damped Inv-loop μ-loop) → Tried (problem (at₁ c)) (nextOf (at₁ c .loop .s)) (at₁ c .loop .t) unanswered (lambda₁ c) (p₁ c) (c .damped .result)
+scaled₁ : (c : tie.After-damped Inv-loop μ-loop) → c .damped .last .1 .1 .1 .1 .1 .0 ≡ scaledStep (problem (at₁ c)) (step₁ c)
+scaled₁ c =
+    let g = c .before .before .before .before .before .before .before .before .before .before .before .before .before in
+    scaled-asked (g .args .st) (at₁ c .loop .store) (g .args .order .now) (ready (at₁ c)) (g .args .diag .now) (g .pre .1 .0) (lambda₁ c) (g .args .radius) (load (g .args .st .n) (g .args .store .now)) (at₁ c .loop .inv .4) (w₁ c) (c .damped .ensures .1 .0)
+
+tried₁ : (c : tie.After-damped Inv-loop μ-loop) → Tried (problem (at₁ c)) (nextOf (at₁ c .loop .s)) (at₁ c .loop .t) unanswered (lambda₁ c) (step₁ c) (c .damped .result)
 tried₁ c =
     let g = c .before .before .before .before .before .before .before .before .before .before .before .before .before in
     let d = c .damped .ensures in
     record {
       lambda-is = c .before .before .before .before .before .before .raised-of .ensures;
-      step-is = step-asked (g .args .st) (at₁ c .loop .store) (g .args .order .now) (ready (at₁ c)) (g .args .diag .now) (g .pre .1 .0) (lambda₁ c) (g .args .radius) (load (g .args .st .n) (g .args .store .now)) (at₁ c .loop .inv .4) (d .1 .1 .0);
-      norm-is = d .0 ∙ ap norm (d .1 .0);
+      step-is = step-asked (g .args .st) (at₁ c .loop .store) (g .args .order .now) (ready (at₁ c)) (g .args .diag .now) (g .pre .1 .0) (lambda₁ c) (g .args .radius) (load (g .args .st .n) (g .args .store .now)) (at₁ c .loop .inv .4) (w₁ c) (d .1 .1 .0);
+      norm-is = d .0 ∙ ap norm (scaled₁ c);
     }
 
 kept₁ : (c : tie.After-damped Inv-loop μ-loop) → emptied (load (c .before .before .before .before .before .before .before .before .before .before .before .before .before .args .st .n) (store₁ c)) ≡ emptied (load (c .before .before .before .before .before .before .before .before .before .before .before .before .before .args .st .n) (c .before .before .before .before .before .before .before .before .before .before .before .before .before .args .store .now))
@@ -76,17 +82,6 @@ kept₁ c =
 
 ready₁ : (c : tie.After-damped Inv-loop μ-loop) → Ready (c .before .before .before .before .before .before .before .before .before .before .before .before .before .args .st) (store₁ c) (c .before .before .before .before .before .before .before .before .before .before .before .before .before .args .order .now)
 ready₁ c = let g = c .before .before .before .before .before .before .before .before .before .before .before .before .before in ready-after (g .args .st) (at₁ c .loop .store) (g .args .order .now) (ready (at₁ c)) (store₁ c) (c .damped .kept .1 .0)
-
--- ---- after the correction
-abbrev at₂ : tie.After-correction Inv-loop μ-loop → tie.After-damped Inv-loop μ-loop
-at₂ c = c .before .before .before .before .before .before .before .before .before .before .before .before .before .before .before .before .before
-
-kept₂ : (c : tie.After-correction Inv-loop μ-loop) → emptied (load (c .before .before .before .before .before .before .before .before .before .before .before .before .before .before .before .before .before .before .before .before .before .before .before .before .before .before .before .before .before .before .args .st .n) (c .correction .last .1 .0)) ≡ emptied (load (c .before .before .before .before .before .before .before .before .before .before .before .before .before .before .before .before .before .before .before .before .before .before .before .before .before .before .before .before .before .before .args .st .n) (c .before .before .before .before .before .before .before .before .before .before .before .before .before .before .before .before .before .before .before .before .before .before .before .before .before .before .before .before .before .before .args .store .now))
-kept₂ c =
-    let g = c .before .before .before .before .before .before .before .before .before .before .before .before .before .before .before .before .before .before .before .before .before .before .before .before .before .before .before .before .before .before in
-    let d = at₂ c in
-    corrected-kept (g .args .st) (at₁ d .loop .store) (g .args .order .now) (ready (at₁ d)) (g .args .diag .now) (g .pre .1 .0) (lambda₁ d) (g .args .radius) (load (g .args .st .n) (g .args .store .now)) (at₁ d .loop .inv .4) (store₁ d) (d .damped .ensures .1 .1 .1)
-    (shaped (g .args .st) (store₁ d) (g .args .order .now) (ready₁ d)) (c .correction .ensures .1)
 
 loop-holds : tie.Need-loop-holds Inv-loop μ-loop
 loop-holds c = (omega arith, refl, refl, refl, refl, refl)
@@ -129,8 +124,8 @@ correction-requires c κs =
     let g = c .before .before .before .before .before .before .before .before .before .before .before .before .before .before .before .before .before .before .before .before .before .before .before .before .before .before .before .before .before in
     let d = c .before .before .before .before .before .before .before .before .before .before .before .before .before .before .before .before in
     let i = c .before .before .before .before .before .before .before .before .before .before .before .before .before .before .before .before .before .before .before .before .before .before .before .loop .inv in (
-      ready-held (g .args .st) (store₁ d) (g .args .order .now) (ready₁ d) held.Damped refl,
-      (refl, (g .pre .1 .0, d .damped .kept .1 .1 .1 .1 .1 .0 ∙ i .2 ∙ g .pre .1 .1, d .damped .kept .1 .1 .1 .1 .1 .1 .0 ∙ i .3 ∙ g .pre .1 .2)),
+      ready₁ d,
+      (g .pre .1 .0, d .damped .kept .1 .1 .1 .1 .1 .0 ∙ i .2 ∙ g .pre .1 .1, d .damped .kept .1 .1 .1 .1 .1 .1 .0 ∙ i .3 ∙ g .pre .1 .2),
     )
 
 is-finite-requires-3 : tie.Need-is-finite-requires-3 Inv-loop μ-loop
@@ -140,23 +135,23 @@ next-of-requires : tie.Need-next-of-requires Inv-loop μ-loop
 next-of-requires c κs = search needs
 
 loop-less : tie.Need-loop-less Inv-loop μ-loop
-loop-less c = omega (arith, c .before .before .before .before .before .before .before .before .before .before .before .before .before .before .before .before .before .before .before .before .before .before .before .before .before .before .before .before .before .before .before .before .before .loop .inv .0, c .before .before .before .before .before .before .before .before .before .before .before .before .before .before .before .before .before .if3 .left)
+loop-less c = omega (arith, c .before .before .before .before .before .before .before .before .before .before .before .before .before .before .before .before .before .before .before .before .before .before .before .before .before .before .before .before .before .loop .inv .0, c .before .before .before .before .before .before .before .before .before .before .before .before .before .if3 .left)
 
 loop-again : tie.Need-loop-again Inv-loop μ-loop
 loop-again c =
-    let d = c .before .before .before .before .before .before .before .before .before .before .before .before .before .before .before .before .before .before .before .before .before .before .before .before .before .before in
-    let l = c .before .before .before .before .before .before .before .before .before .before .before .before .before .before .before .before .before .before .before .before .before .before .before .before .before .before .before .before .before .before .before .before .before in
-    let g = c .before .before .before .before .before .before .before .before .before .before .before .before .before .before .before .before .before .before .before .before .before .before .before .before .before .before .before .before .before .before .before .before .before .before .before .before .before .before .before in
-    let k = c .before .before .before .before .before .before .before .before .before .correction in
-    let n : 9 - l .loop .t ≡ suc (9 - (l .loop .t + 1)) = omega (arith, l .loop .inv .0, c .before .before .before .before .before .before .before .before .before .before .before .before .before .before .before .before .before .if3 .left) in
-    let q = correction-asked (g .args .st) (l .loop .store) (g .args .order .now) (ready l) (g .args .diag .now) (g .pre .1 .0) (lambda₁ d) (g .args .radius) (load (g .args .st .n) (g .args .store .now)) (l .loop .inv .4) (store₁ d) (d .damped .ensures .1 .1 .1) _ _ (p₁ d) _ (d .damped .ensures .0) (d .damped .ensures .1 .0) (c .before .before .before .before .before .before .before .before .before .correction .ensures .0) in
-    let on = goes-on (problem l) (nextOf (l .loop .s)) (l .loop .t) unanswered (tried₁ d) (finite₁ d) (sym (c .before .before .before .before .before .before .before .before .before .before .before .before .before .before .before .before .before .before .before .is-finite2 .ensures) ∙ not-false _ (c .before .before .before .before .before .before .before .before .before .before .before .before .before .before .before .before .before .before .if2 .left)) (9 - (l .loop .t + 1)) refl (sym (c .before .before .before .before .before .before .before .before .before .before .before .before .before .before .before .before .is-within .ensures) ∙ c .before .before .before .before .before .before .before .before .before .before .before .before .before .before .before .if4 .left) (sym (c .before .before .before .before .before .before .before .before .before .before .before .before .before .before .is-falling .ensures) ∙ c .before .before .before .before .before .before .before .before .before .before .before .before .before .if5 .left) q (sym (c .before .before .is-finite3 .ensures) ∙ not-false _ (c .before .if6 .left)) in (
-      omega (arith, l .loop .inv .0, c .before .before .before .before .before .before .before .before .before .before .before .before .before .before .before .before .before .if3 .left),
-      k .kept .1 .0 ∙ d .damped .kept .1 .0 ∙ l .loop .inv .1,
-      k .kept .1 .1 .1 .1 .1 .1 .1 .0 ∙ d .damped .kept .1 .1 .1 .1 .1 .0 ∙ l .loop .inv .2,
+    let d = c .before .before .before .before .before .before .before .before .before .before .before .before .before .before .before .before .before .before .before .before .before .before in
+    let l = c .before .before .before .before .before .before .before .before .before .before .before .before .before .before .before .before .before .before .before .before .before .before .before .before .before .before .before .before .before in
+    let g = c .before .before .before .before .before .before .before .before .before .before .before .before .before .before .before .before .before .before .before .before .before .before .before .before .before .before .before .before .before .before .before .before .before .before .before in
+    let k = c .before .before .before .before .before .correction in
+    let n : 9 - l .loop .t ≡ suc (9 - (l .loop .t + 1)) = omega (arith, l .loop .inv .0, c .before .before .before .before .before .before .before .before .before .before .before .before .before .if3 .left) in
+    let q = correction-asked (g .args .st) (l .loop .store) (g .args .order .now) (ready l) (g .args .diag .now) (g .pre .1 .0) (lambda₁ d) (g .args .radius) (load (g .args .st .n) (g .args .store .now)) (l .loop .inv .4) (store₁ d) (d .damped .ensures .1 .1 .1) _ _ (step₁ d) _ (d .damped .ensures .0) (scaled₁ d) (c .before .before .before .before .before .correction .ensures) in
+    let on = goes-on (problem l) (nextOf (l .loop .s)) (l .loop .t) unanswered (tried₁ d) (finite₁ d) (sym (c .before .before .before .before .before .before .before .before .before .before .before .before .before .before .before .is-finite2 .ensures) ∙ not-false _ (c .before .before .before .before .before .before .before .before .before .before .before .before .before .before .if2 .left)) (9 - (l .loop .t + 1)) refl (sym (c .before .before .before .before .before .before .before .before .before .before .before .before .is-within .ensures) ∙ c .before .before .before .before .before .before .before .before .before .before .before .if4 .left) (sym (c .before .before .before .before .before .before .before .before .before .before .is-falling .ensures) ∙ c .before .before .before .before .before .before .before .before .before .if5 .left) q (sym (c .before .before .is-finite3 .ensures) ∙ not-false _ (c .before .if6 .left)) in (
+      omega (arith, l .loop .inv .0, c .before .before .before .before .before .before .before .before .before .before .before .before .before .if3 .left),
+      d .damped .kept .1 .0 ∙ l .loop .inv .1,
+      d .damped .kept .1 .1 .1 .1 .1 .0 ∙ l .loop .inv .2,
       k .kept .1 .1 .1 .1 .1 .1 .1 .1 .0 ∙ d .damped .kept .1 .1 .1 .1 .1 .1 .0 ∙ l .loop .inv .3,
-      kept₂ (c .before .before .before .before .before .before .before .before .before),
-      again (problem l) (l .loop .t) (9 - (l .loop .t + 1)) (nextOf (l .loop .s)) _ (mine (problem l) (nextOf (l .loop .s)) (l .loop .t) unanswered (lambda₁ d) (p₁ d) (d .damped .result)) (bare (l .loop .s) (lambda₁ d)) _ _ (told (problem l) (nextOf (l .loop .s)) (l .loop .t) unanswered (lambda₁ d) (p₁ d) (d .damped .result)) unanswered (rw n at (l .loop .inv .5)) on (next-same _ _ _ _ refl refl refl) (c .next-of .ensures),
+      kept₁ d,
+      again (problem l) (l .loop .t) (9 - (l .loop .t + 1)) (nextOf (l .loop .s)) _ (mine (problem l) (nextOf (l .loop .s)) (l .loop .t) unanswered (lambda₁ d) (step₁ d) (d .damped .result)) (bare (l .loop .s) (lambda₁ d)) _ _ (told (problem l) (nextOf (l .loop .s)) (l .loop .t) unanswered (lambda₁ d) (step₁ d) (d .damped .result)) unanswered (rw n at (l .loop .inv .5)) on (next-same _ _ _ _ refl refl refl) (c .next-of .ensures),
     )
 
 same-length : tie.Need-same-length Inv-loop μ-loop
@@ -237,23 +232,23 @@ returns-5 c =
     (rw (c .told3 .ensures, add-one) (sym (at-falling (problem l) (nextOf (l .loop .s)) (l .loop .t) unanswered (tried₁ d) (finite₁ d) (sym (c .before .before .before .before .before .before .before .is-finite2 .ensures) ∙ not-false _ (c .before .before .before .before .before .before .if2 .left)) (9 - (l .loop .t + 1)) refl (sym (c .before .before .before .before .is-within .ensures) ∙ c .before .before .before .if4 .left) (sym (c .before .before .is-falling .ensures) ∙ c .before .if5 .taken)) ∙ (rw n at (l .loop .inv .5))), kept₁ d)
 
 same-length-16 : tie.Need-same-length-16 Inv-loop μ-loop
-same-length-16 c = c .before .before .before .before .before .before .before .before .correction .kept .1 .0 ∙ c .before .before .before .before .before .before .before .before .before .before .before .before .before .before .before .before .before .before .before .before .before .before .before .before .before .damped .kept .1 .0 ∙ c .before .before .before .before .before .before .before .before .before .before .before .before .before .before .before .before .before .before .before .before .before .before .before .before .before .before .before .before .before .before .before .before .loop .inv .1
+same-length-16 c = c .before .before .before .before .before .before .before .before .before .before .before .before .before .before .before .before .before .before .before .before .before .damped .kept .1 .0 ∙ c .before .before .before .before .before .before .before .before .before .before .before .before .before .before .before .before .before .before .before .before .before .before .before .before .before .before .before .before .loop .inv .1
 
 same-length-17 : tie.Need-same-length-17 Inv-loop μ-loop
-same-length-17 c = c .before .before .before .before .before .before .before .before .correction .kept .1 .1 .1 .1 .1 .1 .1 .0 ∙ c .before .before .before .before .before .before .before .before .before .before .before .before .before .before .before .before .before .before .before .before .before .before .before .before .before .damped .kept .1 .1 .1 .1 .1 .0 ∙ c .before .before .before .before .before .before .before .before .before .before .before .before .before .before .before .before .before .before .before .before .before .before .before .before .before .before .before .before .before .before .before .before .loop .inv .2
+same-length-17 c = c .before .before .before .before .before .before .before .before .before .before .before .before .before .before .before .before .before .before .before .before .before .damped .kept .1 .1 .1 .1 .1 .0 ∙ c .before .before .before .before .before .before .before .before .before .before .before .before .before .before .before .before .before .before .before .before .before .before .before .before .before .before .before .before .loop .inv .2
 
 same-length-18 : tie.Need-same-length-18 Inv-loop μ-loop
-same-length-18 c = c .before .before .before .before .before .before .before .before .correction .kept .1 .1 .1 .1 .1 .1 .1 .1 .0 ∙ c .before .before .before .before .before .before .before .before .before .before .before .before .before .before .before .before .before .before .before .before .before .before .before .before .before .damped .kept .1 .1 .1 .1 .1 .1 .0 ∙ c .before .before .before .before .before .before .before .before .before .before .before .before .before .before .before .before .before .before .before .before .before .before .before .before .before .before .before .before .before .before .before .before .loop .inv .3
+same-length-18 c = c .before .before .before .before .correction .kept .1 .1 .1 .1 .1 .1 .1 .1 .0 ∙ c .before .before .before .before .before .before .before .before .before .before .before .before .before .before .before .before .before .before .before .before .before .damped .kept .1 .1 .1 .1 .1 .1 .0 ∙ c .before .before .before .before .before .before .before .before .before .before .before .before .before .before .before .before .before .before .before .before .before .before .before .before .before .before .before .before .loop .inv .3
 
 returns-6 : tie.Need-returns-6 Inv-loop μ-loop
 returns-6 c =
-    let d = c .before .before .before .before .before .before .before .before .before .before .before .before .before .before .before .before .before .before .before .before .before .before .before .before .before in
-    let l = c .before .before .before .before .before .before .before .before .before .before .before .before .before .before .before .before .before .before .before .before .before .before .before .before .before .before .before .before .before .before .before .before in
-    let g = c .before .before .before .before .before .before .before .before .before .before .before .before .before .before .before .before .before .before .before .before .before .before .before .before .before .before .before .before .before .before .before .before .before .before .before .before .before .before in
-    let n : 9 - l .loop .t ≡ suc (9 - (l .loop .t + 1)) = omega (arith, l .loop .inv .0, c .before .before .before .before .before .before .before .before .before .before .before .before .before .before .before .before .if3 .left) in
-    let q = correction-asked (g .args .st) (l .loop .store) (g .args .order .now) (ready l) (g .args .diag .now) (g .pre .1 .0) (lambda₁ d) (g .args .radius) (load (g .args .st .n) (g .args .store .now)) (l .loop .inv .4) (store₁ d) (d .damped .ensures .1 .1 .1) _ _ (p₁ d) _ (d .damped .ensures .0) (d .damped .ensures .1 .0) (c .before .before .before .before .before .before .before .before .correction .ensures .0) in (
-      sym (at-correction (problem l) (nextOf (l .loop .s)) (l .loop .t) unanswered (tried₁ d) (finite₁ d) (sym (c .before .before .before .before .before .before .before .before .before .before .before .before .before .before .before .before .before .before .is-finite2 .ensures) ∙ not-false _ (c .before .before .before .before .before .before .before .before .before .before .before .before .before .before .before .before .before .if2 .left)) (9 - (l .loop .t + 1)) refl (sym (c .before .before .before .before .before .before .before .before .before .before .before .before .before .before .before .is-within .ensures) ∙ c .before .before .before .before .before .before .before .before .before .before .before .before .before .before .if4 .left) (sym (c .before .before .before .before .before .before .before .before .before .before .before .before .before .is-falling .ensures) ∙ c .before .before .before .before .before .before .before .before .before .before .before .before .if5 .left) q (sym (c .before .is-finite3 .ensures) ∙ not-true _ (c .if6 .taken))) ∙ (rw n at (l .loop .inv .5)),
-      kept₂ (c .before .before .before .before .before .before .before .before),
+    let d = c .before .before .before .before .before .before .before .before .before .before .before .before .before .before .before .before .before .before .before .before .before in
+    let l = c .before .before .before .before .before .before .before .before .before .before .before .before .before .before .before .before .before .before .before .before .before .before .before .before .before .before .before .before in
+    let g = c .before .before .before .before .before .before .before .before .before .before .before .before .before .before .before .before .before .before .before .before .before .before .before .before .before .before .before .before .before .before .before .before .before .before in
+    let n : 9 - l .loop .t ≡ suc (9 - (l .loop .t + 1)) = omega (arith, l .loop .inv .0, c .before .before .before .before .before .before .before .before .before .before .before .before .if3 .left) in
+    let q = correction-asked (g .args .st) (l .loop .store) (g .args .order .now) (ready l) (g .args .diag .now) (g .pre .1 .0) (lambda₁ d) (g .args .radius) (load (g .args .st .n) (g .args .store .now)) (l .loop .inv .4) (store₁ d) (d .damped .ensures .1 .1 .1) _ _ (step₁ d) _ (d .damped .ensures .0) (scaled₁ d) (c .before .before .before .before .correction .ensures) in (
+      sym (at-correction (problem l) (nextOf (l .loop .s)) (l .loop .t) unanswered (tried₁ d) (finite₁ d) (sym (c .before .before .before .before .before .before .before .before .before .before .before .before .before .before .is-finite2 .ensures) ∙ not-false _ (c .before .before .before .before .before .before .before .before .before .before .before .before .before .if2 .left)) (9 - (l .loop .t + 1)) refl (sym (c .before .before .before .before .before .before .before .before .before .before .before .is-within .ensures) ∙ c .before .before .before .before .before .before .before .before .before .before .if4 .left) (sym (c .before .before .before .before .before .before .before .before .before .is-falling .ensures) ∙ c .before .before .before .before .before .before .before .before .if5 .left) q (sym (c .before .is-finite3 .ensures) ∙ not-true _ (c .if6 .taken))) ∙ (rw n at (l .loop .inv .5)),
+      kept₁ d,
     )
 
 pub trials-spec : {M : Type 1} → statement M

@@ -31,8 +31,8 @@ slice-aggregate-run-into c =
     let z = c .before .before .before .before .if1 .left in
     sym (length-take-le (g .st .n) (g .diag .now) (diag-long (g .st) (g .store .now) (g .order .now) (g .diag .now) (g .radius) (g .lambda) (g .out .now) e z))
 
-array-borrow-prefix-p : tie.Need-array-borrow-prefix-p
-array-borrow-prefix-p c =
+array-borrow-prefix-v : tie.Need-array-borrow-prefix-v
+array-borrow-prefix-v c =
     let g = c .before .before .before .before .before .before .before .before .before .before .args in
     let e = c .before .before .before .before .before .check-search .ensures in
     let z = c .before .before .before .before .if1 .left in
@@ -45,8 +45,8 @@ slice-aggregate-run-into-2 c =
     let z = c .before .before .before .before .before .if1 .left in
     sym (sixteen-front (g .st .n) (c .before .before .before .before .room16 .ensures) (few (g .st) (g .store .now) (g .order .now) (g .diag .now) (g .radius) (g .lambda) (g .out .now) e z))
 
-array-borrow-prefix-v : tie.Need-array-borrow-prefix-v
-array-borrow-prefix-v c =
+array-borrow-prefix-w : tie.Need-array-borrow-prefix-w
+array-borrow-prefix-w c =
     let g = c .before .before .before .before .before .before .before .before .before .before .before .args in
     let e = c .before .before .before .before .before .before .check-search .ensures in
     let z = c .before .before .before .before .before .if1 .left in
@@ -108,9 +108,9 @@ determine-lambda-and-parameter-update-spec =
     room16-requires
     room16-requires-2
     slice-aggregate-run-into
-    array-borrow-prefix-p
-    slice-aggregate-run-into-2
     array-borrow-prefix-v
+    slice-aggregate-run-into-2
+    array-borrow-prefix-w
     slice-aggregate-run-into-3
     slice-relend-prefix-run-into
     slice-aggregate-run-into-4

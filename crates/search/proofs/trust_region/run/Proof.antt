@@ -2,16 +2,12 @@
 use mathlib.Core.Path.{_≡_, refl, sym, ap, _∙_}
 use borrow.Author.Needs.{needs}
 use borrow.Author.Tests.{not-true, not-false}
-use lib.Ieee.{Float, binary64, sub, le, ofBits}
+use lib.Ieee.{ofBits}
 use Rattle.leaves.specs.Norm.{norm}
 use Rattle.leaves.specs.Number.{plusZero}
-use Rattle.factor.specs.Room.{load, lay, emptied}
-use Rattle.factor.specs.declared.state.Held.the-variants as held
-use Rattle.search.specs.Problem.{Problem}
-use Rattle.search.specs.Search.{problemOf, concluded}
-use Rattle.search.specs.Read.{unanswered, damped}
-use Rattle.search.proofs.Workings.{ready-after, ready-held}
-use Rattle.search.proofs.Answering.{no-norm, taken, not-taken, undamped-asked, emptied-kept, same-asked, band-test}
+use Rattle.factor.specs.Room.{load}
+use Rattle.search.specs.Search.{problemOf}
+use Rattle.search.proofs.Answering.{no-norm, taken, not-taken, undamped-asked, scaled-asked, band-test}
 use Rattle.search.proofs.trust_region.run.Statement.{statement}
 use Rattle.search.proofs.trust_region.run.Tie as tie
 
@@ -32,13 +28,15 @@ same-length-3 c = search needs
 
 returns : tie.Need-returns
 returns c =
-    let g = c .before .before .before .before .before .before .before .before .before .before .before .before .before .before .before .before .before in
-    let u = c .before .before .before .before .before .before .before .before .undamped in
-    let s = u .last .1 .0 in
-    let asked = problemOf (g .args .st) (g .args .order .now) (g .args .diag .now) (g .args .radius) (load (g .args .st .n) (g .args .store .now)) in
-    let step = undamped-asked (g .args .st) (g .args .order .now) (g .args .diag .now) plusZero (g .args .radius) (load (g .args .st .n) (g .args .store .now)) (u .ensures .1 .1 .0) in
-    let nrm = u .ensures .0 ∙ ap norm (u .ensures .1 .0) in
-    (no-norm asked (g .args .lambda) step nrm (sym (c .before .is-finite .ensures) ∙ not-true _ (c .if1 .taken)), u .ensures .1 .1 .1)
+    let g = c .before .before .before .before .before .before .before .before .before .before .before .before .before .before .before in
+    let u = c .before .before .before .before .before .before .undamped in
+    let room = load (g .args .st .n) (g .args .store .now) in
+    let w = u .last .1 .1 .1 .1 .1 .0 in
+    let scaled = scaled-asked (g .args .st) (g .args .order .now) (g .args .diag .now) plusZero (g .args .radius) room w (u .ensures .1 .0) in
+    let asked = problemOf (g .args .st) (g .args .order .now) (g .args .diag .now) (g .args .radius) room in
+    let step = undamped-asked (g .args .st) (g .args .order .now) (g .args .diag .now) plusZero (g .args .radius) room w (u .ensures .1 .1) in
+    let nrm = u .ensures .0 ∙ ap norm scaled in
+    (no-norm asked (g .args .lambda) step nrm (sym (c .before .is-finite .ensures) ∙ not-true _ (c .if1 .taken)), refl)
 
 band-of-requires : tie.Need-band-of-requires
 band-of-requires c κs = search needs
@@ -55,23 +53,24 @@ same-length-6 c = search needs
 returns-2 : tie.Need-returns-2
 unfolding ofBits
 returns-2 c =
-    let g = c .before .before .before .before .before .before .before .before .before .before .before .before .before .before .before .before .before .before .before in
-    let u = c .before .before .before .before .before .before .before .before .before .before .undamped in
-    let s = u .last .1 .0 in
-    let asked = problemOf (g .args .st) (g .args .order .now) (g .args .diag .now) (g .args .radius) (load (g .args .st .n) (g .args .store .now)) in
-    let step = undamped-asked (g .args .st) (g .args .order .now) (g .args .diag .now) plusZero (g .args .radius) (load (g .args .st .n) (g .args .store .now)) (u .ensures .1 .1 .0) in
-    let nrm = u .ensures .0 ∙ ap norm (u .ensures .1 .0) in
-    (taken asked (g .args .lambda) step nrm (sym (c .before .before .before .is-finite .ensures) ∙ not-false _ (c .before .before .if1 .left)) (band-test _ _ (c .before .band-of .ensures) (c .if2 .taken)), u .ensures .1 .1 .1)
+    let g = c .before .before .before .before .before .before .before .before .before .before .before .before .before .before .before .before .before in
+    let u = c .before .before .before .before .before .before .before .before .undamped in
+    let room = load (g .args .st .n) (g .args .store .now) in
+    let w = u .last .1 .1 .1 .1 .1 .0 in
+    let scaled = scaled-asked (g .args .st) (g .args .order .now) (g .args .diag .now) plusZero (g .args .radius) room w (u .ensures .1 .0) in
+    let asked = problemOf (g .args .st) (g .args .order .now) (g .args .diag .now) (g .args .radius) room in
+    let step = undamped-asked (g .args .st) (g .args .order .now) (g .args .diag .now) plusZero (g .args .radius) room w (u .ensures .1 .1) in
+    let nrm = u .ensures .0 ∙ ap norm scaled in
+    (taken asked (g .args .lambda) step nrm (sym (c .before .before .before .is-finite .ensures) ∙ not-false _ (c .before .before .if1 .left)) (band-test _ _ (c .before .band-of .ensures) (c .if2 .taken)), refl)
 
-conclude-requires : tie.Need-conclude-requires
-conclude-requires c κs =
-    let g = c .before .before .before .before .before .before .before .before .before .before .before .before .before .before .before .before .before .before .before .before .before .before in
-    let u = c .before .before .before .before .before .before .before .before .before .before .before .before .before .undamped in
-    let s = u .last .1 .0 in
-    let ready = ready-after (g .args .st) (g .args .store .now) (g .args .order .now) (g .pre .0) s (u .kept .1 .0) in (
-      ready-held (g .args .st) s (g .args .order .now) ready held.Zero refl,
-      (refl, ((g .pre .1 .0, u .kept .1 .1 .1 .1 .0 ∙ g .pre .1 .1, u .kept .1 .1 .1 .1 .1 .0 ∙ g .pre .1 .2), (u .ensures .0, u .ensures .1 .0))),
-    )
+bounded-requires : tie.Need-bounded-requires
+bounded-requires c κs =
+    let g = c .before .before .before .before .before .before .before .before .before .before .before .before .before .before .before .before .before .before .before .before in
+    let u = c .before .before .before .before .before .before .before .before .before .before .before .undamped in
+    let room = load (g .args .st .n) (g .args .store .now) in
+    let w = u .last .1 .1 .1 .1 .1 .0 in
+    let scaled = scaled-asked (g .args .st) (g .args .order .now) (g .args .diag .now) plusZero (g .args .radius) room w (u .ensures .1 .0) in
+    (g .pre .0, ((g .pre .1 .0, u .kept .1 .1 .1 .1 .0 ∙ g .pre .1 .1, u .kept .1 .1 .1 .1 .1 .0 ∙ g .pre .1 .2), (u .ensures .0, scaled)))
 
 same-length-7 : tie.Need-same-length-7
 same-length-7 c = search needs
@@ -84,18 +83,16 @@ same-length-9 c = search needs
 
 returns-3 : tie.Need-returns-3
 returns-3 c =
-    let g = c .before .before .before .before .before .before .before .before .before .before .before .before .before .before .before .before .before .before .before .before .before .before .before .before .before .before .before .before .before in
-    let u = c .before .before .before .before .before .before .before .before .before .before .before .before .before .before .before .before .before .before .before .before .undamped in
-    let s = u .last .1 .0 in
-    let asked = problemOf (g .args .st) (g .args .order .now) (g .args .diag .now) (g .args .radius) (load (g .args .st .n) (g .args .store .now)) in
-    let step = undamped-asked (g .args .st) (g .args .order .now) (g .args .diag .now) plusZero (g .args .radius) (load (g .args .st .n) (g .args .store .now)) (u .ensures .1 .1 .0) in
-    let nrm = u .ensures .0 ∙ ap norm (u .ensures .1 .0) in
-    let k = c .before .before .before .before .before .before .conclude .ensures in
-    let same = same-asked (g .args .st) (g .args .store .now) (g .args .order .now) (g .pre .0) s (u .ensures .1 .1 .1) (g .args .diag .now) (g .args .radius) in
-    let e = k .0 ∙ ap (λ (x : Problem). concluded 0 unanswered (damped x (g .args .lambda) (u .last .1 .1 .1 .1 .0))) same in (
-      not-taken asked (g .args .lambda) step nrm (sym (c .before .before .before .before .before .before .before .before .before .before .before .before .before .is-finite .ensures) ∙ not-false _ (c .before .before .before .before .before .before .before .before .before .before .before .before .if1 .left)) (band-test _ _ (c .before .before .before .before .before .before .before .before .before .before .before .band-of .ensures) (c .before .before .before .before .before .before .before .before .before .before .if2 .left)) e,
-      k .1 ∙ ap lay (emptied-kept (g .args .st) (g .args .store .now) (g .args .order .now) (g .pre .0) s (u .ensures .1 .1 .1)),
-    )
+    let g = c .before .before .before .before .before .before .before .before .before .before .before .before .before .before .before .before .before .before .before .before .before .before .before .before .before .before .before in
+    let u = c .before .before .before .before .before .before .before .before .before .before .before .before .before .before .before .before .before .before .undamped in
+    let room = load (g .args .st .n) (g .args .store .now) in
+    let w = u .last .1 .1 .1 .1 .1 .0 in
+    let scaled = scaled-asked (g .args .st) (g .args .order .now) (g .args .diag .now) plusZero (g .args .radius) room w (u .ensures .1 .0) in
+    let asked = problemOf (g .args .st) (g .args .order .now) (g .args .diag .now) (g .args .radius) room in
+    let step = undamped-asked (g .args .st) (g .args .order .now) (g .args .diag .now) plusZero (g .args .radius) room w (u .ensures .1 .1) in
+    let nrm = u .ensures .0 ∙ ap norm scaled in
+    let k = c .before .before .before .before .before .before .bounded .ensures in
+    (not-taken asked (g .args .lambda) step nrm (sym (c .before .before .before .before .before .before .before .before .before .before .before .before .before .is-finite .ensures) ∙ not-false _ (c .before .before .before .before .before .before .before .before .before .before .before .before .if1 .left)) (band-test _ _ (c .before .before .before .before .before .before .before .before .before .before .before .band-of .ensures) (c .before .before .before .before .before .before .before .before .before .before .if2 .left)) (k .0), k .1)
 
 pub run-spec : {M : Type 1} → statement M
 run-spec =
@@ -112,7 +109,7 @@ run-spec =
     same-length-5
     same-length-6
     returns-2
-    conclude-requires
+    bounded-requires
     same-length-7
     same-length-8
     same-length-9

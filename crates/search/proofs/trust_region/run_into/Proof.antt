@@ -1,20 +1,35 @@
 -- `search::trust_region::run_into` meets its contract. Assumes nothing.
 use mathlib.Core.Path.{_≡_, refl, sym, ap, _∙_}
 use borrow.Author.Needs.{needs}
+use Rattle.factor.specs.Room.{load, lay}
+use Rattle.search.specs.Problem.{placed}
+use Rattle.search.specs.Search.{problemOf}
 use Rattle.search.specs.Read.{withStep}
 use Rattle.search.specs.declared.trust_region.Found.{Found}
-use Rattle.search.proofs.Calling.{step-written, not-written}
+use Rattle.search.proofs.Workings.{ready-after}
+use Rattle.search.proofs.Calling.{placing, placed-length, step-placed, step-written, not-written}
 use Rattle.search.proofs.trust_region.run_into.Statement.{statement}
 use Rattle.search.proofs.trust_region.run_into.Tie as tie
 
 run-requires : tie.Need-run-requires
 run-requires c κs = search needs
 
+empty-requires : tie.Need-empty-requires
+empty-requires c κs =
+    let g = c .before .before .before .before .before .before .before .before .before .before .before .before .before .before .before .before .before in
+    let k = c .before .before .before .before .before .before .before .run in
+    ready-after (g .args .st) (g .args .store .now) (g .args .order .now) (g .pre .0) (k .last .1 .0) (k .kept .1 .0)
+
 enum-known-found : tie.Need-enum-known-found
 enum-known-found c = search needs
 
-copy-of-requires : tie.Need-copy-of-requires
-copy-of-requires c κs = search needs
+place-requires : tie.Need-place-requires
+place-requires c κs =
+    let g = c .before .before .before .before .before .before .before .before .before .before .before .before .before .before .before .before .before .before .before .before .before .before .before .before .before in
+    let k = c .before .before .before .before .before .before .before .before .before .before .before .before .before .before .before .run in
+    let l = k .kept .1 .1 .1 .1 .1 .1 .1 .0 ∙ g .pre .1 .0 .2 in
+    let h = placing (g .args .st) (g .args .store .now) (g .args .order .now) (g .pre .0) (k .last .1 .1 .1 .1 .1 .1 .1 .0) l in
+    ((search needs, h .0), h .1)
 
 enum-known-found-2 : tie.Need-enum-known-found-2
 enum-known-found-2 c = search needs
@@ -33,11 +48,13 @@ same-length-4 c = search needs
 
 returns : tie.Need-returns
 returns c =
-    let g = c .before .before .before .before .before .before .before .before .before .before .before .before .before .before .before .before .before .before .before .before .before .before .before .before in
-    let k = c .before .before .before .before .before .before .before .before .before .before .before .before .before .before .run in
-    let p = k .last .1 .1 .1 .1 .1 .1 .0 in
-    let l = k .kept .1 .1 .1 .1 .1 .1 .0 ∙ g .pre .1 .0 .1 ∙ sym (g .pre .1 .1) in
-    step-written (g .args .st) _ (g .args .out .now) _ p (sym (ap (λ (x : Found). withStep x p) (c .before .before .before .before .before .before .found .given .1)) ∙ k .ensures .0) (k .ensures .1) (c .before .before .copy-of .ensures) l
+    let g = c .before .before .before .before .before .before .before .before .before .before .before .before .before .before .before .before .before .before .before .before .before .before .before .before .before .before .before .before in
+    let k = c .before .before .before .before .before .before .before .before .before .before .before .before .before .before .before .before .before .before .run in
+    let room = load (g .args .st .n) (g .args .store .now) in
+    let w = k .last .1 .1 .1 .1 .1 .1 .1 .0 in
+    let step = placed (problemOf (g .args .st) (g .args .order .now) (g .args .diag .now) (g .args .radius) room) w in
+    let l = k .kept .1 .1 .1 .1 .1 .1 .1 .0 ∙ g .pre .1 .0 .2 in
+    step-written (g .args .st) _ (g .args .out .now) _ step (sym (ap (λ (x : Found). withStep x step) (c .before .before .before .before .before .before .found .given .1)) ∙ k .ensures .0) (c .before .before .before .before .before .before .before .before .before .before .empty .ensures ∙ ap lay (k .ensures .1)) (step-placed (g .args .st) (g .args .store .now) (g .args .order .now) (g .pre .0) (g .args .diag .now) (g .args .radius) room w l (g .args .out .now) (g .pre .1 .1) (c .before .before .place .ensures)) (placed-length (g .args .st) (g .args .store .now) (g .args .order .now) (g .pre .0) (g .args .diag .now) (g .args .radius) room w l ∙ sym (g .pre .1 .1))
 
 same-length-5 : tie.Need-same-length-5
 same-length-5 c = search needs
@@ -50,18 +67,21 @@ same-length-7 c = search needs
 
 returns-2 : tie.Need-returns-2
 returns-2 c =
-    let g = c .before .before .before .before .before .before .before .before .before .before .before .before .before .before .before .before .before .before .before in
-    let k = c .before .before .before .before .before .before .before .before .before .run in
-    let p = k .last .1 .1 .1 .1 .1 .1 .0 in
-    not-written (g .args .st) _ (g .args .out .now) _ (sym (ap (λ (x : Found). withStep x p) (c .before .found2 .given .1)) ∙ k .ensures .0) (k .ensures .1)
+    let g = c .before .before .before .before .before .before .before .before .before .before .before .before .before .before .before .before .before .before .before .before .before .before .before in
+    let k = c .before .before .before .before .before .before .before .before .before .before .before .before .before .run in
+    let room = load (g .args .st .n) (g .args .store .now) in
+    let w = k .last .1 .1 .1 .1 .1 .1 .1 .0 in
+    let step = placed (problemOf (g .args .st) (g .args .order .now) (g .args .diag .now) (g .args .radius) room) w in
+    not-written (g .args .st) _ (g .args .out .now) _ (sym (ap (λ (x : Found). withStep x step) (c .before .found2 .given .1)) ∙ k .ensures .0) (c .before .before .before .before .before .empty .ensures ∙ ap lay (k .ensures .1))
 
 pub run-into-spec : {M : Type 1} → statement M
 run-into-spec =
     tie.close
     (tie.spec
     run-requires
+    empty-requires
     enum-known-found
-    copy-of-requires
+    place-requires
     enum-known-found-2
     same-length
     same-length-2

@@ -1,0 +1,73 @@
+-- `factor::pivot_order::damped_numbers` meets its contract. Assumes nothing.
+use Prim.Native.Nat.{_*_}
+use mathlib.Core.Path.{sym}
+use borrow.Author.Needs.{needs}
+use mathlib.Core.List.{_++_}
+use lib.ListN.{drop}
+use Rattle.factor.proofs.Layouts.{square-of}
+use Rattle.factor.proofs.Damped.{sized-lent, room-lowered, step-left}
+use Rattle.factor.proofs.pivot_order.damped_numbers.Statement.{statement}
+use Rattle.factor.proofs.pivot_order.damped_numbers.Tie as tie
+
+copy-part-requires : tie.Need-copy-part-requires
+copy-part-requires c κs = search needs
+
+mul-nn : tie.Need-mul-nn
+mul-nn c = search needs
+
+slice-relend-prefix-eliminate : tie.Need-slice-relend-prefix-eliminate
+slice-relend-prefix-eliminate c = search needs
+
+slice-aggregate-eliminate : tie.Need-slice-aggregate-eliminate
+slice-aggregate-eliminate c = sym (square-of (c .before .before .before .before .before .before .before .before .before .before .args .n) (c .before .before .before .before .before .before .before .before .before .before .args .store .now) (c .before .before .before .before .before .before .before .before .before .before .pre .0) .whole)
+
+eliminate-requires : tie.Need-eliminate-requires
+eliminate-requires c κs = (square-of (c .before .before .before .before .before .before .before .before .before .before .before .before .args .n) (c .before .before .before .before .before .before .before .before .before .before .before .before .args .store .now) (c .before .before .before .before .before .before .before .before .before .before .before .before .pre .0), (search needs, (search needs, search needs)))
+
+slice-reshare-prefix-backward-in : tie.Need-slice-reshare-prefix-backward-in
+slice-reshare-prefix-backward-in c = search needs
+
+slice-aggregate-backward-in : tie.Need-slice-aggregate-backward-in
+slice-aggregate-backward-in c = sym (square-of (c .before .before .before .before .before .before .before .before .before .before .before .before .before .before .before .before .before .before .before .before .args .n) (c .before .before .before .before .before .before .before .eliminate .last .0 ++ drop (c .before .before .before .before .before .before .before .before .before .before .before .before .before .before .before .before .before .before .before .before .args .n * c .before .before .before .before .before .before .before .before .before .before .before .before .before .before .before .before .before .before .before .before .args .n) (c .before .before .before .before .before .before .before .before .before .before .before .before .before .before .before .before .before .before .before .before .args .store .now)) (sized-lent (c .before .before .before .before .before .before .before .before .before .before .before .before .before .before .before .before .before .before .before .before .args .n) (c .before .before .before .before .before .before .before .eliminate .last .0) (c .before .before .before .before .before .before .before .before .before .before .before .before .before .before .before .before .before .before .before .before .args .store .now) (c .before .before .before .before .before .before .before .before .before .before .before .before .before .before .before .before .before .before .before .before .pre .0) (c .before .before .before .before .before .before .before .eliminate .kept .0)) .whole)
+
+backward-in-requires : tie.Need-backward-in-requires
+backward-in-requires c κs = (square-of (c .before .before .before .before .before .before .before .before .before .before .before .before .before .before .before .before .before .before .before .before .before .before .args .n) (c .before .before .before .before .before .before .before .before .before .eliminate .last .0 ++ drop (c .before .before .before .before .before .before .before .before .before .before .before .before .before .before .before .before .before .before .before .before .before .before .args .n * c .before .before .before .before .before .before .before .before .before .before .before .before .before .before .before .before .before .before .before .before .before .before .args .n) (c .before .before .before .before .before .before .before .before .before .before .before .before .before .before .before .before .before .before .before .before .before .before .args .store .now)) (sized-lent (c .before .before .before .before .before .before .before .before .before .before .before .before .before .before .before .before .before .before .before .before .before .before .args .n) (c .before .before .before .before .before .before .before .before .before .eliminate .last .0) (c .before .before .before .before .before .before .before .before .before .before .before .before .before .before .before .before .before .before .before .before .before .before .args .store .now) (c .before .before .before .before .before .before .before .before .before .before .before .before .before .before .before .before .before .before .before .before .before .before .pre .0) (c .before .before .before .before .before .before .before .before .before .eliminate .kept .0)), (search needs, search needs))
+
+put-part-requires : tie.Need-put-part-requires
+put-part-requires c κs = search needs
+
+same-length : tie.Need-same-length
+same-length c = search needs
+
+same-length-2 : tie.Need-same-length-2
+same-length-2 c = search needs
+
+same-length-3 : tie.Need-same-length-3
+same-length-3 c = search needs
+
+returns : tie.Need-returns
+returns c =
+    let g = c .before .before .before .before .before .before .before .before .before .before .before .before .before .before .before .before .before .before .before .before .before .before .before .before .before .before .before .before .before .before .args in
+    let x = c .before .before .before .before .before .before .before .before .before .before .before .before .before .before .before .before .before .eliminate in
+    let y = c .before .before .before .before .before .before .before .before .before .before .before .before .before .before .before .before .before .before .before .before .before .before .before .copy-part in (
+      room-lowered (g .n) (g .ds .now) (g .store .now) (x .last .0) (y .last .1 .1 .1 .0) (x .last .1 .1 .1 .0) (x .last .1 .1 .1 .1 .0) (c .before .before .before .before .before .before .before .before .before .before .before .before .before .before .before .before .before .before .before .before .before .before .before .before .before .before .before .before .before .before .pre .0) (x .kept .0) (y .ensures) (x .ensures) _ (c .before .before .put-part .ensures),
+      step-left (g .n) (g .ds .now) (g .store .now) (x .last .0) (y .last .1 .1 .1 .0) (x .last .1 .1 .1 .0) (x .last .1 .1 .1 .1 .0) (c .before .before .before .before .before .before .before .before .before .before .before .before .before .before .before .before .before .before .before .before .before .before .before .before .before .before .before .before .before .before .pre .0) (x .kept .0) (y .ensures) (x .ensures) (c .before .before .before .before .before .before .before .backward-in .ensures),
+    )
+
+pub damped-numbers-spec : {M : Type 1} → statement M
+damped-numbers-spec =
+    tie.close
+    (tie.spec
+    copy-part-requires
+    mul-nn
+    slice-relend-prefix-eliminate
+    slice-aggregate-eliminate
+    eliminate-requires
+    slice-reshare-prefix-backward-in
+    slice-aggregate-backward-in
+    backward-in-requires
+    put-part-requires
+    same-length
+    same-length-2
+    same-length-3
+    returns)
