@@ -1,4 +1,5 @@
--- Document 01's commissioning examples E, H, I, J and L, each computed by the definitions that the contracts cite. Assumes nothing.
+-- Document 01's commissioning examples E, H, I, J and L, each computed by the definitions that the contracts cite; and what H's numbers are
+-- in pivot order, where the order is (1, 0) and Rᵀ·qt_b is Jᵀ·r. Assumes nothing.
 use Prim.Native.Nat.{ℕ}
 use mathlib.Core.Path.{_≡_, refl}
 use mathlib.Core.Bool.{true, false}
@@ -8,6 +9,8 @@ use lib.Ieee.{Float, nan, binary64, round}
 use Rattle.leaves.specs.Reply.{Reply, answered, refused}
 use Rattle.leaves.specs.Number.{plusZero}
 use Rattle.factor.specs.Calls.{Factored, factorCall, zeroCall, gradientCall, determinedCall, solveCall, Ended, Told}
+use Rattle.factor.specs.PivotOrder.{zeroIn, dampedIn, productIn, fullRank, emptyCall}
+use Rattle.factor.specs.State.{empty}
 use Rattle.factor.specs.Opened.{opened}
 use Rattle.factor.specs.declared.state.State.{State}
 use Rattle.factor.specs.declared.state.Held.the-variants as held
@@ -44,3 +47,14 @@ pub examples :
     × (solveCall (H .state) (H .order) (junk 2) (H .store) (junk 2) .reply ≡ refused 5)
 unfolding opened
 examples = (refl, refl, refl, refl, refl, refl, refl)
+
+pub in-pivot-order :
+    (zeroIn (H .state) (H .store) (junk 2) .out ≡ w 2 ∷ w 0 ∷ [])
+    × (dampedIn (H .state) (w 0 ∷ w 0 ∷ []) (H .store) (junk 2) .out ≡ w 2 ∷ w 0 ∷ [])
+    × (productIn (H .state) (H .store) (junk 2) .out ≡ w 32 ∷ w 24 ∷ [])
+    × (fullRank (H .state) (H .store) ≡ answered false)
+    × (emptyCall (H .state) (H .store) .store ≡ H .store)
+    × (zeroIn (H .state) (H .store) (junk 1) .reply ≡ refused 3)
+    × (zeroIn empty (H .store) (junk 2) .reply ≡ refused 5)
+unfolding opened
+in-pivot-order = (refl, refl, refl, refl, refl, refl, refl)
