@@ -1,5 +1,6 @@
 -- Demand 3: the calls that take a state, as one type, and what each does by the very definition that its contract cites.
--- What a search asks of `pivot_order` between its tests and its end is not: nobody sees the room then. The order list is lent to every call; some do not look at it.
+-- What a search asks of `pivot_order` between its tests and its end is not among them: nobody sees the room then. The order list is lent
+-- to every call; some do not look at it.
 use Prim.Native.Nat.{ℕ}
 use mathlib.Core.Bool.{Bool, true, false, cond}
 use mathlib.Core.List.{List, [], _∷_}

@@ -8,7 +8,7 @@ ghost use mathlib.Core.Path.{_≡_};
 ghost use Prim.Native.Nat.{_+_, _*_, _-_, _<_, _≤_};
 ghost use lib.ListN.{length, drop};
 ghost use Rattle.leaves.specs.Number.{plusZero};
-ghost use Rattle.factor.specs.Room.{Square, zeros};
+ghost use Rattle.factor.specs.Room.{Square};
 ghost use Rattle.factor.specs.Eliminate.{lesser, givens, turnedAll, leftAll, started, eliminated, heads};
 ghost use Rattle.factor.specs.Edges.{edgesOf, upTo, ahead, TurnsPlace, Ahead, Turns, Ends, MirrorsColumn, Mirrors, Settles, Eliminates};
 

@@ -48,7 +48,7 @@ pub(crate) fn write_finite(w: &[f64], out: &mut [f64]) -> bool
 
 // ---- the held solve: w is the right side on entry and the answer on exit, both in pivot order
 
-fn solve_zero(store: &[f64], n: usize, w: &mut [f64])
+pub(crate) fn solve_zero(store: &[f64], n: usize, w: &mut [f64])
     requires { ⌜ Sized n (now store) ⌝ }
     requires { ⌜ length (now w) ≡ n ⌝ }
     ensures { λ _. ⌜ now (w .exit) ≡ heldSolved held.Zero (now (w .entry)) (load n (now (store .entry))) ⌝ }

@@ -5,8 +5,8 @@ use crate::check::check_room;
 use crate::check::least;
 use crate::eliminate::eliminate;
 use crate::held::forward_lower;
-use crate::held::forward_upper;
 use crate::held::mul_upper;
+use crate::holding::solve_zero;
 use crate::room::copy_part;
 use crate::room::empty_room;
 use crate::room::part_at;
@@ -83,15 +83,6 @@ pub fn damped(st: State, store: &mut [f64], ds: &[f64], w: &mut [f64]) -> Done
     Done::Written
 }
 
-fn forward_zero(store: &[f64], n: usize, w: &mut [f64])
-    requires { ⌜ Sized n (now store) ⌝ }
-    requires { ⌜ length (now w) ≡ n ⌝ }
-    ensures { λ _. ⌜ now (w .exit) ≡ heldSolved held.Zero (now (w .entry)) (load n (now (store .entry))) ⌝ }
-{
-    let nn = n * n;
-    forward_upper(&store[..nn], n, w);
-}
-
 pub fn held_zero(st: State, store: &[f64], w: &mut [f64]) -> Done
     ensures { λ r. ⌜ read (doneOf r) (now (w .exit)) ≡ heldZeroIn st (now (store .entry)) (now (w .entry)) ⌝ }
 {
@@ -100,7 +91,7 @@ pub fn held_zero(st: State, store: &[f64], w: &mut [f64]) -> Done
     if c != 0 {
         return Done::Refused(c);
     }
-    forward_zero(store, n, &mut w[..n]);
+    solve_zero(store, n, &mut w[..n]);
     Done::Written
 }
 

@@ -9,7 +9,7 @@ ghost use mathlib.Core.Path.{_≡_};
 ghost use mathlib.Core.Bool.{cond};
 ghost use Prim.Native.Nat.{_≤_};
 ghost use mathlib.Core.List.{[]};
-ghost use lib.ListN.{length, replicate};
+ghost use lib.ListN.{length};
 ghost use lib.Ieee.{eq};
 ghost use Rattle.leaves.specs.Number.{plusZero, one};
 ghost use Rattle.leaves.specs.Norm.{norm};

@@ -1,12 +1,10 @@
 // Leaves as the workings call them: on slices of fitting lengths there is no refusal, so a plain number or nothing comes back.
-use leaves::number::is_finite;
 use leaves::reply::Place;
 use leaves::reply::Value;
 ghost use mathlib.Core.Path.{_≡_};
-ghost use Prim.Native.Nat.{_<_, _≤_, min};
-ghost use lib.ListN.{length, take};
+ghost use Prim.Native.Nat.{_<_, _≤_};
+ghost use lib.ListN.{length};
 ghost use Rattle.leaves.specs.Norm.{norm};
-ghost use Rattle.factor.specs.Tests.{allFinite};
 ghost use Rattle.leaves.specs.Vector.{dotOf, axpyAll, imaxOf};
 
 pub(crate) fn norm_of(v: &[f64]) -> f64

@@ -1,12 +1,12 @@
 -- The search as its callers see it, from its tests and its run. Assumes nothing.
 use mathlib.Core.Path.{_≡_, refl, sym, ap, _∙_}
-use mathlib.Core.Bool.{Bool, true, false, not, _||_}
+use mathlib.Core.Bool.{false, not}
 use mathlib.Core.List.{List, [], _∷_, _++_, append-nil, append-assoc}
 use Prim.Native.Nat.{ℕ, _-_, _≤_, _<_, _+_, min}
 use native.Mathlib.Omega.{arith}
-use lib.Dec.{ltb, eqb}
+use lib.Dec.{ltb}
 use lib.ListN.{length, getD, take, drop, length-append, length-replicate, take-append-drop, drop-of-length-le}
-use lib.Seq.{take-all, drop-drop, take-take, length-take-le}
+use lib.Seq.{take-all, drop-drop, length-take-le}
 use lib.Ieee.{Float}
 use borrow.Author.Tests.{ne-eqb, le-ltb}
 use Rattle.leaves.specs.Reply.{Reply, answered, refused}
@@ -14,7 +14,7 @@ use Rattle.leaves.specs.Number.{plusZero}
 use Rattle.factor.specs.State.{withHeld, storeNeed}
 use Rattle.factor.specs.Room.{Room, load, lay, emptied, zeros}
 use Rattle.factor.specs.Solve.{scatter}
-use Rattle.factor.specs.Tests.{Test, firstOf, finiteTest, finiteNumber, notAbove, below, noneZero}
+use Rattle.factor.specs.Tests.{firstOf, finiteTest, finiteNumber, notAbove, below, noneZero}
 use Rattle.factor.specs.Calls.{Ended, ended, written, solveTests}
 use Rattle.factor.specs.declared.state.State.{State}
 use Rattle.factor.specs.declared.state.Held.the-variants as held
@@ -24,11 +24,10 @@ use Rattle.factor.proofs.Measured.{earlier-passed}
 use Rattle.factor.proofs.Triangular.{drop-take}
 use Rattle.search.specs.Problem.{Problem, placed}
 use Rattle.search.specs.Search.{Answer, answerOf, problemOf, searchTests, searched, searchCall}
-use Rattle.search.specs.Read.{Ready, foundOf, withStep}
+use Rattle.search.specs.Read.{Ready}
 use Rattle.search.specs.declared.LMParameter.{LMParameter}
-use Rattle.search.specs.declared.trust_region.Found.{Found}
 use Rattle.search.specs.declared.trust_region.Found.the-variants as found
-use Rattle.search.proofs.Shapes.{scatter-length, scatter-fresh}
+use Rattle.search.proofs.Shapes.{placed-length, scatter-fresh}
 use Rattle.search.proofs.Workings.{order-long, order-below}
 
 -- ---- with the step written, on an output of exactly n numbers
@@ -52,9 +51,9 @@ module _ (st : State) (store : List Float) (order : List ℕ) (e : Ready st stor
   abbrev asked : Problem
   asked = problemOf st order diag radius r
 
-  pub placed-length : length (placed asked w) ≡ st .n
+  pub placed-long : length (placed asked w) ≡ st .n
   unfolding placed
-  placed-length = scatter-length (take (st .n) order) w (zeros (length w)) ∙ length-replicate (length w) plusZero ∙ l
+  placed-long = placed-length (take (st .n) order) w ∙ l
 
   pub step-placed : (out : List Float) {out′ : List Float} → length out ≡ st .n → out′ ≡ scatter (take (length w) order) w out → out′ ≡ placed asked w
   unfolding placed

@@ -4,16 +4,16 @@ use mathlib.Core.Bool.{Bool, true, false}
 use mathlib.Core.List.{List}
 use Prim.Native.Nat.{ℕ, zero, suc}
 use lib.Dec.{eqb}
-use lib.ListN.{length, take, drop, length-replicate}
+use lib.ListN.{length, take, drop}
 use lib.Seq.{take-at, length-take-le}
 use lib.Ieee.{Float, binary64, sub, le}
 use borrow.Author.Tests.{eqb-true, not-false}
 use Rattle.leaves.specs.Reply.{Reply, answered, refused}
 use Rattle.leaves.specs.Number.{plusZero, dwarf, isFinite}
 use Rattle.leaves.proofs.Replies.{refused-answered, answered-same}
-use Rattle.factor.specs.Room.{Room, Shaped, diagonal, load, lay, emptied, zeros}
+use Rattle.factor.specs.Room.{Room, Shaped, diagonal, load, lay, emptied}
 use Rattle.factor.specs.Tests.{Test, firstOf}
-use Rattle.factor.specs.Solve.{scatter, gather, zeroSolved}
+use Rattle.factor.specs.Solve.{gather, zeroSolved}
 use Rattle.factor.specs.Eliminate.{damping, dampedSolved, heads, tails}
 use Rattle.factor.specs.Calls.{Ended, ended, written}
 use Rattle.factor.specs.declared.state.State.{State}
@@ -25,7 +25,7 @@ use Rattle.search.specs.Search.{Answer, answerOf, problemOf, searchTests
 use Rattle.search.specs.Qrsolv.{Solved, qrsolv}
 use Rattle.search.specs.Lmpar.{Given, Output, Before, Tried, evaluated, accepted, improved, iterations, lmpar}
 use Rattle.search.specs.declared.LMParameter.{LMParameter}
-use Rattle.search.proofs.Shapes.{scatter-length, zero-length, damped-length, damping-fits}
+use Rattle.search.proofs.Shapes.{placed-length, zero-length, damped-length, damping-fits}
 use Rattle.search.proofs.Workings.{shaped, order-long}
 use Rattle.search.proofs.Calling.{ready}
 use Rattle.search.proofs.AgainstQrsolv.{qrsolv-is}
@@ -35,9 +35,6 @@ use Rattle.search.proofs.LmparStart.{first, tested-is, answer-is-lmpar}
 use Rattle.search.proofs.LmparStart as start
 
 -- ---- x has n entries
-placed-length : (os : List ℕ) (xs : List Float) → length (scatter os xs (zeros (length xs))) ≡ length xs
-placed-length os xs = scatter-length os xs (zeros (length xs)) ∙ length-replicate (length xs) plusZero
-
 module _ (p : Problem) (w : Formed p) where
   abbrev n : ℕ
   n = length (p .upper)

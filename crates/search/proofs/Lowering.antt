@@ -4,23 +4,20 @@ use mathlib.Core.List.{List}
 use Prim.Native.Nat.{ℕ}
 use native.Mathlib.Omega.{arith}
 use lib.ListN.{length, take, length-map}
-use lib.Seq.{length-take-le}
 use lib.Ieee.{Float}
 use Rattle.leaves.specs.Root.{rootS}
 use Rattle.leaves.specs.Vector.{scaleAll}
 use Rattle.factor.specs.Room.{Room, Shaped, load, lay, leaving, emptied, cleared}
-use Rattle.factor.specs.Solve.{gather}
 use Rattle.factor.specs.Eliminate.{Rows, heads, tails}
 use Rattle.factor.specs.declared.state.State.{State}
 use Rattle.factor.proofs.Damped.{cleared-same}
 use Rattle.factor.proofs.Layouts.{load-lay}
-use Rattle.factor.proofs.Solves.{gather-length}
 use Rattle.factor.proofs.Triangular.{heads-length}
 use Rattle.factor.specs.PivotOrder.{lowered}
 use Rattle.search.specs.Problem.{dampedRows}
 use Rattle.search.specs.Search.{problemOf}
 use Rattle.search.specs.Read.{Ready}
-use Rattle.search.proofs.Shapes.{Even, tri-length, tails-tall, damping-even}
+use Rattle.search.proofs.Shapes.{Even, tri-length, tails-tall, gathered-even}
 use Rattle.search.proofs.Workings.{shaped, order-long}
 
 module _ (n : ℕ) (l : Rows) (r : Room) (z : Shaped n r) (e : Even n l) where
@@ -61,5 +58,4 @@ pub rows-fit : (st : State) (store : List Float) (order : List ℕ) → Ready st
     → Even (st .n) (dampedRows (problemOf st order diag radius (load (st .n) store)) lambda)
 unfolding dampedRows
 rows-fit st store order e diag lambda radius =
-    damping-even (st .n) (gather (take (st .n) order) (scaleAll (rootS lambda) (take (st .n) diag))) (load (st .n) store) (shaped st store order e)
-    (gather-length (take (st .n) order) (scaleAll (rootS lambda) (take (st .n) diag)) ∙ length-take-le (st .n) order (order-long st store order e))
+    gathered-even (st .n) order (scaleAll (rootS lambda) (take (st .n) diag)) (load (st .n) store) (shaped st store order e) (order-long st store order e)

@@ -7,7 +7,7 @@ use mathlib.Core.List.{List}
 use mathlib.Core.Logic.{_↔_, _⊎_, inl, inr}
 use Prim.Native.Nat.{ℕ, _<_, _≤_}
 use native.Mathlib.Omega.{arith}
-use lib.ListN.{length, take, drop, length-replicate}
+use lib.ListN.{length, take, drop}
 use lib.Seq.{length-take-le, take-at, drop-at}
 use lib.Ieee.{Float, binary64, sub, lt, le}
 use borrow.Author.Tests.{not-false}
@@ -28,14 +28,13 @@ use Rattle.factor.specs.History.{replyNumber}
 use Rattle.factor.specs.declared.state.State.{State}
 use Rattle.factor.proofs.Refusals.{NoneHold, passed-iff}
 use Rattle.factor.proofs.Passed.{finite-all}
-use Rattle.factor.proofs.Solves.{gather-length}
 use Rattle.search.specs.Problem.{Problem, placed, undampedStep, dampedRows, dampedStep, scaledNorm}
 use Rattle.search.specs.Bounds.{band}
 use Rattle.search.specs.Run.{Stop, undamped, ten, within, falling, isWithin, runOf}
 use Rattle.search.specs.Search.{Answer, answerOf, searched, searchCall}
 use Rattle.search.specs.Read.{Ready}
 use Rattle.search.specs.declared.LMParameter.{LMParameter}
-use Rattle.search.proofs.Shapes.{scatter-length, zero-length, damped-length, damping-even}
+use Rattle.search.proofs.Shapes.{placed-length, zero-length, damped-length, gathered-even}
 use Rattle.search.proofs.Workings.{shaped, order-long}
 use Rattle.search.proofs.Calling.{ready, diag-long}
 use Rattle.search.proofs.SearchTable.{tests, tested, asked, call, ends, passed-is, answered-otherwise}
@@ -53,21 +52,17 @@ module _ (st : State) (order : List ℕ) (diag : List Float) (radius : Float) (r
   abbrev problem : Problem
   problem = record { m = st .m; upper = room .upper; qtb = room .qtb; order = take (st .n) order; diag = take (st .n) diag; radius = radius }
 
-  placed-length : (xs : List Float) → length xs ≡ st .n → length (placed problem xs) ≡ st .n
-  unfolding placed
-  placed-length xs h = scatter-length (take (st .n) order) xs _ ∙ length-replicate (length xs) plusZero ∙ h
-
   undamped-long : length (undampedStep problem) ≡ st .n
-  unfolding undampedStep
-  undamped-long = placed-length (zeroSolved (st .m) (room .upper) (room .qtb)) (zero-length (st .m) (room .upper) (room .qtb) (z .upper-wide ∙ sym (z .qtb-long)) ∙ z .qtb-long)
+  unfolding undampedStep placed
+  undamped-long =
+      placed-length (take (st .n) order) (zeroSolved (st .m) (room .upper) (room .qtb)) ∙ zero-length (st .m) (room .upper) (room .qtb) (z .upper-wide ∙ sym (z .qtb-long)) ∙ z .qtb-long
 
   damped-long : (lambda : Float) → length (dampedStep problem lambda) ≡ st .n
-  unfolding dampedStep dampedRows
+  unfolding dampedStep dampedRows placed
   damped-long lambda =
-      let ds = gather (take (st .n) order) (scaleAll (rootS lambda) (take (st .n) diag)) in
-      let l = damping ds (room .upper) (room .qtb) in
-      placed-length (dampedSolved (heads (l .0)) (tails (l .0)) (l .1))
-      (damped-length (heads (l .0)) (tails (l .0)) (l .1) ∙ damping-even (st .n) ds room z (gather-length (take (st .n) order) _ ∙ length-take-le (st .n) order ol) .1)
+      let ds = scaleAll (rootS lambda) (take (st .n) diag) in
+      let l = damping (gather (take (st .n) order) ds) (room .upper) (room .qtb) in
+      placed-length (take (st .n) order) (dampedSolved (heads (l .0)) (tails (l .0)) (l .1)) ∙ damped-length (heads (l .0)) (tails (l .0)) (l .1) ∙ gathered-even (st .n) order ds room z ol .1
 
 module _ (st : State) (order : List ℕ) (diag : List Float) (radius lambda : Float) (store out : List Float) (a : LMParameter) where
   abbrev room : Room

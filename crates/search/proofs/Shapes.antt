@@ -38,6 +38,9 @@ scatter-length [] xs out = refl
 scatter-length (o ∷ os) [] out = refl
 scatter-length (o ∷ os) (x ∷ xs) out = scatter-length os xs (set out o x) ∙ length-set out o x
 
+pub placed-length : (os : List ℕ) (xs : List Float) → length (scatter os xs (zeros (length xs))) ≡ length xs
+placed-length os xs = scatter-length os xs (zeros (length xs)) ∙ length-replicate (length xs) plusZero
+
 pub scatter-fresh : (n : ℕ) (order : List ℕ) (xs out old : List Float) → isPermutation n order ≡ true → n ≤ length order → length xs ≡ n → length out ≡ n → length old ≡ n
     → scatter (take n order) xs out ≡ scatter (take n order) xs old
 scatter-fresh n order xs out old h long l a b =
@@ -222,3 +225,7 @@ damping-fits ds us q h l = eliminated-even (length us) ds (rowsFrom 0 us) q h (r
 -- LAW: what a damped solve leaves is a room of the same shape, and its right side is as long as qt_b
 pub damping-even : (n : ℕ) (ds : List Float) (r : Room) → Shaped n r → length ds ≡ n → Even n (damping ds (r .upper) (r .qtb))
 damping-even n ds r z h = let w = z .upper-wide in rw w at (damping-fits ds (r .upper) (r .qtb) (h ∙ sym w) (z .qtb-long ∙ sym w))
+
+-- with a diagonal that is taken in pivot order
+pub gathered-even : (n : ℕ) (order : List ℕ) (xs : List Float) (r : Room) → Shaped n r → n ≤ length order → Even n (damping (gather (take n order) xs) (r .upper) (r .qtb))
+gathered-even n order xs r z long = damping-even n (gather (take n order) xs) r z (gather-length (take n order) xs ∙ length-take-le n order long)

@@ -36,7 +36,7 @@ use Rattle.search.specs.Search.{problemOf}
 use Rattle.search.specs.Bounds.{quotients, gnorm}
 use Rattle.search.specs.Read.{Ready, turnedBy}
 use Rattle.search.proofs.Lists.{by-scaling}
-use Rattle.search.proofs.Shapes.{zero-length, damped-length, upper-length, lower-length, mul-length, damping-even, Even, placed-scaled}
+use Rattle.search.proofs.Shapes.{zero-length, damped-length, upper-length, lower-length, mul-length, gathered-even, Even, placed-scaled}
 
 module _ (st : State) (store : List Float) (order : List ℕ) (e : Ready st store order) where
   abbrev n : ℕ
@@ -137,7 +137,7 @@ module _ (st : State) (store : List Float) (order : List ℕ) (e : Ready st stor
     rows-are radius = rw (take-all (st .n) diag (omega arith))
 
     rows-even : Even (st .n) given
-    rows-even = damping-even (st .n) by-place room shaped place-long
+    rows-even = gathered-even (st .n) order (scaleAll (rootS lambda) diag) room shaped order-long
 
     -- the diagonal in pivot order
     module _ (ds w : List Float) (es : ds ≡ by-place) (wl : length w ≡ st .n) where

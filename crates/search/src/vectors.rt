@@ -1,9 +1,7 @@
 // Document 01, module 7: what a search does with vectors of a number for each column.
 ghost use mathlib.Core.Path.{_≡_};
-ghost use mathlib.Core.List.{map};
 ghost use Prim.Native.Nat.{ℕ, _≤_, _<_};
 ghost use lib.ListN.{length, getD, take, replicate};
-ghost use lib.Ieee.{binary64, div};
 ghost use Rattle.leaves.specs.Number.{plusZero};
 ghost use Rattle.leaves.specs.Norm.{norm};
 ghost use Rattle.leaves.specs.Vector.{scaleAll};

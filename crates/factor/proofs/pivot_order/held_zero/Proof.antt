@@ -14,18 +14,18 @@ returns c =
     let g = c .before .before .before .before .args in
     held-zero-refused (g .st) (g .store .now) (g .w .now) (c .before .check-room .ensures) (c .if1 .taken)
 
-slice-relend-prefix-forward-zero : tie.Need-slice-relend-prefix-forward-zero
-slice-relend-prefix-forward-zero c =
+slice-relend-prefix-solve-zero : tie.Need-slice-relend-prefix-solve-zero
+slice-relend-prefix-solve-zero c =
     let g = c .before .before .before .before .args in
     each-long (g .st) (g .store .now) (length (g .w .now)) (c .before .check-room .ensures) (c .if1 .left)
 
-slice-aggregate-forward-zero : tie.Need-slice-aggregate-forward-zero
-slice-aggregate-forward-zero c =
+slice-aggregate-solve-zero : tie.Need-slice-aggregate-solve-zero
+slice-aggregate-solve-zero c =
     let g = c .before .before .before .before .before .args in
     sym (front-long (g .st) (g .store .now) (g .w .now) (c .before .before .check-room .ensures) (c .before .if1 .left))
 
-forward-zero-requires : tie.Need-forward-zero-requires
-forward-zero-requires c κs =
+solve-zero-requires : tie.Need-solve-zero-requires
+solve-zero-requires c κs =
     let g = c .before .before .before .before .before .args in
     let e = c .before .before .check-room .ensures in
     let z = c .before .if1 .left in
@@ -37,7 +37,7 @@ same-length c = search needs
 returns-2 : tie.Need-returns-2
 returns-2 c =
     let g = c .before .before .before .before .before .before .before .before .args in
-    let x = c .before .before .forward-zero in
+    let x = c .before .before .solve-zero in
     held-zero-written (g .st) (g .store .now) (g .w .now) (c .before .before .before .before .before .check-room .ensures) (c .before .before .before .before .if1 .left) (x .ensures) (x .kept .1 .1 .0)
 
 pub held-zero-spec : {M : Type 1} → statement M
@@ -46,8 +46,8 @@ held-zero-spec =
     (tie.spec
     check-room-requires
     returns
-    slice-relend-prefix-forward-zero
-    slice-aggregate-forward-zero
-    forward-zero-requires
+    slice-relend-prefix-solve-zero
+    slice-aggregate-solve-zero
+    solve-zero-requires
     same-length
     returns-2)

@@ -7,7 +7,7 @@ use Rattle.search.specs.Search.{problemOf}
 use Rattle.search.specs.Read.{withStep}
 use Rattle.search.specs.declared.trust_region.Found.{Found}
 use Rattle.search.proofs.Workings.{ready-after}
-use Rattle.search.proofs.Calling.{placing, placed-length, step-placed, step-written, not-written}
+use Rattle.search.proofs.Calling.{placing, placed-long, step-placed, step-written, not-written}
 use Rattle.search.proofs.trust_region.run_into.Statement.{statement}
 use Rattle.search.proofs.trust_region.run_into.Tie as tie
 
@@ -54,7 +54,7 @@ returns c =
     let w = k .last .1 .1 .1 .1 .1 .1 .1 .0 in
     let step = placed (problemOf (g .args .st) (g .args .order .now) (g .args .diag .now) (g .args .radius) room) w in
     let l = k .kept .1 .1 .1 .1 .1 .1 .1 .0 ∙ g .pre .1 .0 .2 in
-    step-written (g .args .st) _ (g .args .out .now) _ step (sym (ap (λ (x : Found). withStep x step) (c .before .before .before .before .before .before .found .given .1)) ∙ k .ensures .0) (c .before .before .before .before .before .before .before .before .before .before .empty .ensures ∙ ap lay (k .ensures .1)) (step-placed (g .args .st) (g .args .store .now) (g .args .order .now) (g .pre .0) (g .args .diag .now) (g .args .radius) room w l (g .args .out .now) (g .pre .1 .1) (c .before .before .place .ensures)) (placed-length (g .args .st) (g .args .store .now) (g .args .order .now) (g .pre .0) (g .args .diag .now) (g .args .radius) room w l ∙ sym (g .pre .1 .1))
+    step-written (g .args .st) _ (g .args .out .now) _ step (sym (ap (λ (x : Found). withStep x step) (c .before .before .before .before .before .before .found .given .1)) ∙ k .ensures .0) (c .before .before .before .before .before .before .before .before .before .before .empty .ensures ∙ ap lay (k .ensures .1)) (step-placed (g .args .st) (g .args .store .now) (g .args .order .now) (g .pre .0) (g .args .diag .now) (g .args .radius) room w l (g .args .out .now) (g .pre .1 .1) (c .before .before .place .ensures)) (placed-long (g .args .st) (g .args .store .now) (g .args .order .now) (g .pre .0) (g .args .diag .now) (g .args .radius) room w l ∙ sym (g .pre .1 .1))
 
 same-length-5 : tie.Need-same-length-5
 same-length-5 c = search needs
