@@ -5,7 +5,7 @@ use mathlib.Core.List.{List, _++_, map}
 use Prim.Native.Nat.{ℕ}
 use lib.Dec.{eqb}
 use lib.ListN.{length, take, drop}
-use lib.Seq.{take-at}
+use lib.Seq.{length-take-le, take-at}
 use lib.Ieee.{Float}
 use borrow.Author.Tests.{eqb-true}
 use Rattle.leaves.specs.Reply.{answered, refused}
@@ -13,16 +13,20 @@ use Rattle.leaves.specs.Norm.{norm}
 use Rattle.leaves.specs.Triangle.{columns}
 use Rattle.leaves.proofs.Replies.{refused-answered}
 use Rattle.factor.specs.State.{storeNeed, benchNeed}
-use Rattle.factor.specs.Room.{Room, Shaped, load, lay, zeros}
-use Rattle.factor.specs.Tests.{firstOf, allFinite, distinctBelow, isPermutation}
-use Rattle.factor.specs.Factor.{Reduction, reduction-of, noLower}
-use Rattle.factor.specs.Calls.{Factored, factored, factorTests, factoredRoom, finiteRoom, allFiniteIn, factorWorked, factorCall, written}
+use Rattle.factor.specs.Room.{Room, Shaped, load, lay}
+use Rattle.leaves.specs.Square.{zeros}
+use Rattle.leaves.specs.Tests.{firstOf, allFinite}
+use Rattle.factor.specs.Tests.{distinctBelow, isPermutation}
+use Rattle.reduce.specs.Reduction.{Reduction, reduction-of}
+use Rattle.factor.specs.Factoring.{noLower, Factored, factored, factorTests, factoredRoom, finiteRoom, allFiniteIn, factorWorked, factorCall}
+use Rattle.factor.specs.Outcome.{written}
 use Rattle.factor.specs.AsFactored.{AsFactored}
 use Rattle.factor.specs.declared.state.Held.the-variants as held
 use Rattle.factor.proofs.Passed.{Factorable, factor-passed}
 use Rattle.factor.proofs.Layouts.{load-lay}
 use Rattle.factor.proofs.Workings.{norms-long}
-use Rattle.factor.proofs.Fitting.{Fits, reduction-fits, factored-shaped}
+use Rattle.reduce.proofs.Fitting.{Fits, reduction-fits}
+use Rattle.factor.proofs.Shapes.{factored-shaped}
 use Rattle.factor.proofs.Swaps.{reduction-permutes}
 
 -- ---- an answer comes of the first of two outcomes where the second is a refusal
@@ -68,8 +72,11 @@ module _ (m n : ℕ) (jacobian residuals store : List Float) (order : List ℕ) 
     finite : finiteRoom room ≡ true
     finite = worked worked-answered .0
 
+    residuals-front : length (take m residuals) ≡ m
+    residuals-front = length-take-le m residuals (answered-passed .residuals-long)
+
     pub answered-fits : Fits m n made
-    answered-fits = reduction-fits m n jacobian (take m residuals) (answered-passed .jacobian-long)
+    answered-fits = reduction-fits m n jacobian (take m residuals) (answered-passed .jacobian-long) residuals-front
 
     pub answered-shaped : Shaped n room
     answered-shaped = factored-shaped m n (map norm (columns m n jacobian)) (drop (storeNeed n) store) made answered-fits (norms-long m n jacobian)
@@ -110,4 +117,4 @@ module _ (m n : ℕ) (jacobian residuals store : List Float) (order : List ℕ) 
     answered-order =
         let e : call .order ≡ made .order ++ drop n order = ap (λ (x : Factored). x .order) answered-is in
         ap (isPermutation n) e ∙ ap (distinctBelow n) (take-at (made .order) (drop n order) n (answered-fits .order-long))
-        ∙ reduction-permutes m n jacobian (take m residuals) (answered-passed .jacobian-long)
+        ∙ reduction-permutes m n jacobian (take m residuals) (answered-passed .jacobian-long) residuals-front

@@ -1,17 +1,16 @@
--- Two answers that are read alike are the same answer. Assumes nothing.
-use mathlib.Core.Path.{_≡_, refl, ap}
-use Rattle.leaves.proofs.Replies.{answered-refused, refused-answered, answered-same, refused-same}
-use Rattle.factor.specs.Answers.{truthOf, gradientOf, scalingOf}
-use Rattle.factor.specs.Rescale.{first, later}
+-- Two answers that are read alike are the same answer, and so with the slices beside them. Assumes nothing.
+use mathlib.Core.List.{List}
+use lib.Ieee.{Float}
+use Rattle.leaves.specs.Reply.{doneOf}
+use Rattle.leaves.specs.declared.reply.Done.{Done}
+use Rattle.leaves.proofs.Replies.{doneOf-same, answered-refused, refused-answered, answered-same, refused-same}
+use Rattle.factor.specs.Outcome.{Read, read, Ended, ended}
+use Rattle.factor.specs.declared.state.State.{State}
+use Rattle.factor.specs.declared.state.Told.{Told}
+use mathlib.Core.Path.{_≡_, ap, _∙_}
+use Rattle.factor.specs.Answers.{truthOf}
 use Rattle.factor.specs.declared.answer.Truth.{Truth}
 use Rattle.factor.specs.declared.answer.Truth.the-variants as truth
-use Rattle.factor.specs.declared.gradient.Gradient.{Gradient}
-use Rattle.factor.specs.declared.gradient.Gradient.the-variants as gradient
-use Rattle.factor.specs.declared.scaling.Start.{Start}
-use Rattle.factor.specs.declared.scaling.Scaling.{Scaling}
-use Rattle.factor.specs.declared.scaling.Scaling.the-variants as scaling
-use Prim.Native.Nat.{ℕ}
-use native.Mathlib.Omega.{arith}
 
 pub truthOf-same : (r t : Truth) → truthOf r ≡ truthOf t → r ≡ t
 truthOf-same (truth.Is x) (truth.Is y) e = ap truth.Is (answered-same e)
@@ -19,28 +18,20 @@ truthOf-same (truth.Is x) (truth.Refused k) e = answered-refused e
 truthOf-same (truth.Refused k) (truth.Is x) e = refused-answered e
 truthOf-same (truth.Refused j) (truth.Refused k) e = ap truth.Refused (refused-same e)
 
-pub gradientOf-same : (r t : Gradient) → gradientOf r ≡ gradientOf t → r ≡ t
-gradientOf-same (gradient.Measure x) (gradient.Measure y) e = ap gradient.Measure (answered-same e)
-gradientOf-same (gradient.Measure x) (gradient.Refused k) e = answered-refused e
-gradientOf-same (gradient.Refused k) (gradient.Measure x) e = refused-answered e
-gradientOf-same (gradient.Refused j) (gradient.Refused k) e = ap gradient.Refused (refused-same e)
+-- an answer, and the one slice that is written
+pub read-same : (r t : Done) {o p : List Float} → read (doneOf r) o ≡ read (doneOf t) p → (r ≡ t) × (o ≡ p)
+read-same r t e = (doneOf-same r t (ap (λ (x : Read). x .reply) e), ap (λ (x : Read). x .out) e)
 
-first-same : {s t : Start} → first s ≡ first t → s ≡ t
-first-same e = cc
+-- a call's answer and state, and both lent slices after it
+abbrev tells : Done → State → Told
+tells d q = record { answer = d; state = q }
 
-first-later : {X : Type 0} {t : Start} → first t ≡ later → X
-first-later {t = t} e = absurd (let z : _≡_ {A = ℕ} 0 1 = cc in omega arith)
-
-later-first : {X : Type 0} {t : Start} → later ≡ first t → X
-later-first {t = t} e = absurd (let z : _≡_ {A = ℕ} 0 1 = cc in omega arith)
-
-pub scalingOf-same : (r t : Scaling) → scalingOf r ≡ scalingOf t → r ≡ t
-scalingOf-same (scaling.First s) (scaling.First t) e = ap scaling.First (first-same (answered-same e))
-scalingOf-same (scaling.First s) scaling.Later e = first-later (answered-same e)
-scalingOf-same (scaling.First s) (scaling.Refused k) e = answered-refused e
-scalingOf-same scaling.Later (scaling.First t) e = later-first (answered-same e)
-scalingOf-same scaling.Later scaling.Later e = refl
-scalingOf-same scaling.Later (scaling.Refused k) e = answered-refused e
-scalingOf-same (scaling.Refused j) (scaling.First t) e = refused-answered e
-scalingOf-same (scaling.Refused j) scaling.Later e = refused-answered e
-scalingOf-same (scaling.Refused j) (scaling.Refused k) e = ap scaling.Refused (refused-same e)
+pub ended-same : (r t : Told) {s u o p : List Float} → ended (doneOf (r .answer)) (r .state) s o ≡ ended (doneOf (t .answer)) (t .state) u p
+    → (r ≡ t) × (s ≡ u) × (o ≡ p)
+ended-same r t e =
+    let a = doneOf-same (r .answer) (t .answer) (ap (λ (x : Ended (Unit {0})). x .reply) e) in
+    let b = ap (λ (x : Ended (Unit {0})). x .state) e in (
+      ap (λ (d : Done). tells d (r .state)) a ∙ ap (λ (q : State). tells (t .answer) q) b,
+      ap (λ (x : Ended (Unit {0})). x .store) e,
+      ap (λ (x : Ended (Unit {0})). x .out) e,
+    )

@@ -2,24 +2,18 @@
 use mathlib.Core.Path.{_≡_, refl, sym, ap, _∙_}
 use mathlib.Core.List.{List, [], _∷_, _++_}
 use Prim.Native.Nat.{ℕ, zero, suc, _+_, _-_, _*_, _<_, _≤_}
-use native.Mathlib.Nat.{le-refl, not-suc-le-zero, sub-zero, suc-sub-suc}
+use native.Mathlib.Nat.{le-refl, not-suc-le-zero}
 use native.Mathlib.Numerals.{add-one}
 use native.Mathlib.Omega.{arith}
 use lib.ListN.{length, getD, take, drop, set, length-take, length-drop, drop-of-length-le, take-append-drop, List·getD-append}
-use lib.Seq.{drop-cons, drop-drop, take-nil, take-take, take-suc, take-at, drop-at, set-at, getD-take, append-snoc, length-take-le}
+use lib.Seq.{drop-cons, drop-drop, take-take, take-suc, take-at, drop-at, set-at, getD-take, append-snoc, length-take-le}
 use lib.Ieee.{Float, nan, binary64, sub, div}
 use Rattle.leaves.specs.Vector.{dotOf}
-use Rattle.factor.specs.Room.{Square, belowsOf, zeros}
-use Rattle.factor.specs.Solve.{rank, padded}
-use Rattle.factor.specs.Eliminate.{backward, dampedSolved}
-use Rattle.factor.proofs.Squares.{below-at}
+use Rattle.leaves.specs.Square.{Square, belowsOf, zeros}
+use Rattle.factor.specs.Solve.{rank, padded, backward, dampedSolved}
+use Rattle.leaves.proofs.Grids.{drop-take}
+use Rattle.leaves.proofs.Squares.{below-at}
 use Rattle.factor.proofs.Solves.{rank-most, cleared-take, cleared-drop}
-
-drop-take : (r m : ℕ) (l : List Float) → drop r (take m l) ≡ take (m - r) (drop r l)
-drop-take zero m l = rw sub-zero
-drop-take (suc r) zero l = let e : 0 - suc r ≡ 0 = omega arith in rw e
-drop-take (suc r) (suc m) [] = sym (take-nil (suc m - suc r))
-drop-take (suc r) (suc m) (x ∷ l) = rw suc-sub-suc (drop-take r m l)
 
 -- what is lent of the column under the diagonal
 module _ (n : ℕ) (s : List Float) (q : Square n s) (j : ℕ) (h : j < n) where

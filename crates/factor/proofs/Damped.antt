@@ -5,22 +5,26 @@ use mathlib.Core.List.{List, [], _∷_, _++_}
 use Prim.Native.Nat.{ℕ, suc, _*_, _<_}
 use native.Mathlib.Omega.{arith}
 use lib.ListN.{length, take, drop, getD, length-append, length-drop, length-replicate}
-use lib.Seq.{take-at, take-all}
+use lib.Seq.{take-at}
 use lib.Ieee.{Float}
 use Rattle.leaves.specs.Number.{plusZero}
-use Rattle.factor.specs.Room.{Room, Sized, Shaped, uppersOf, belowsOf, part, load, lay, cleared, leaving, withPart, emptied}
-use Rattle.factor.specs.Tests.{allFinite}
-use Rattle.factor.specs.Solve.{scatter, gather}
-use Rattle.factor.specs.Eliminate.{Rows, damping, dampedSolved, heads, tails}
-use Rattle.factor.specs.Edges.{Eliminates}
-use Rattle.factor.specs.Calls.{dampedRoom, dampedStep}
+use Rattle.leaves.specs.Reply.{Reply}
+use Rattle.factor.specs.Room.{Room, Sized, Shaped, part, load, lay, leaving, withPart, emptied}
+use Rattle.leaves.specs.Square.{uppersOf, belowsOf, cleared}
+use Rattle.leaves.specs.Tests.{allFinite}
+use Rattle.factor.specs.Solve.{scatter, gather, dampedSolved}
+use Rattle.eliminate.specs.Eliminate.{Rows, damping, heads, tails}
+use Rattle.eliminate.specs.Eliminated.{eliminated, eliminateCall}
+use Rattle.eliminate.specs.Edges.{Eliminates}
+use Rattle.eliminate.proofs.Lent.{eliminates}
+use Rattle.factor.specs.Solves.{dampedRoom, dampedStep}
 use Rattle.factor.specs.PivotOrder.{lowered}
 use Rattle.factor.proofs.Layouts.{square-upper, square-of, laid, load-shaped, leaving-shaped, load-lay}
 use Rattle.factor.proofs.Lent.{withSquare, square-lent, square-leaving}
 
 -- ---- a finite answer, and where it goes
-pub finite-of : (n : ℕ) {b : Bool} {w x : List Float} → length w ≡ n → b ≡ allFinite (take n w) → w ≡ x → b ≡ allFinite x
-finite-of n {w = w} l e h = e ∙ ap allFinite (take-all n w (omega arith) ∙ h)
+pub finite-of : {b : Bool} {w x : List Float} → b ≡ allFinite w → w ≡ x → b ≡ allFinite x
+finite-of e h = e ∙ ap allFinite h
 
 pub scattered : (os : List ℕ) (out : List Float) {x y out′ : List Float} → out′ ≡ scatter os x out → x ≡ y → out′ ≡ scatter os y out
 scattered os out e h = e ∙ ap (λ (z : List Float). scatter os z out) h
@@ -43,39 +47,50 @@ left-loaded n s l z h e =
 abbrev pub dampingOf : ℕ → List Float → List Float → Rows
 dampingOf n ds s = damping ds (load n s .upper) (load n s .qtb)
 
-module _ (n : ℕ) (ds s t w w′ l : List Float) (z : Sized n s) (e : length t ≡ length (take (n * n) s)) (q : w ≡ part n 0 s) (h : Eliminates n ds (take (n * n) s) t w w′ l) where
+module _ (n : ℕ) (ds s t w w′ l₀ l : List Float) {d : Reply (Unit {0})} (p : (0 < n) × Sized n s) (hd : length ds ≡ n) (hl : length l₀ ≡ n)
+    (e : length t ≡ length (take (n * n) s)) (q : w ≡ part n 0 s) (told : eliminated d t w′ l ≡ eliminateCall n ds (take (n * n) s) w l₀) where
+  sized : Sized n s
+  sized = p .1
+
+  right-long : length w ≡ n
+  unfolding load
+  right-long = ap length q ∙ load-shaped n s sized .qtb-long
+
+  works : Eliminates n ds (take (n * n) s) t w w′ l
+  works = eliminates n ds (take (n * n) s) t w w′ l₀ l (square-of n s sized) (p .0) hd right-long hl told
+
   same-rows : damping ds (uppersOf n (take (n * n) s)) w ≡ dampingOf n ds s
   unfolding load
   same-rows = rw (q, square-upper n s)
 
   below-is : belowsOf n t ≡ tails (dampingOf n ds s .0)
-  below-is = h .below ∙ ap (λ (x : Rows). tails (x .0)) same-rows
+  below-is = works .below ∙ ap (λ (x : Rows). tails (x .0)) same-rows
 
   diagonal-is : l ≡ heads (dampingOf n ds s .0)
-  diagonal-is = h .diagonal ∙ ap (λ (x : Rows). heads (x .0)) same-rows
+  diagonal-is = works .diagonal ∙ ap (λ (x : Rows). heads (x .0)) same-rows
 
   right-is : w′ ≡ dampingOf n ds s .1
-  right-is = h .right ∙ ap (λ (x : Rows). x .1) same-rows
+  right-is = works .right ∙ ap (λ (x : Rows). x .1) same-rows
 
   -- LAW: the room that is left
   pub room-left : {s′ : List Float} → length l ≡ n
       → s′ ≡ lay (leaving (load n (t ++ drop (n * n) s) .below) l (load n (t ++ drop (n * n) s))) → load n s′ ≡ dampedRoom (dampingOf n ds s) (load n s)
   unfolding dampedRoom
-  room-left k p =
-      left-loaded n (t ++ drop (n * n) s) l (sized-lent n t s z e) k p ∙ square-leaving n t s l z e (h .upper)
+  room-left k g =
+      left-loaded n (t ++ drop (n * n) s) l (sized-lent n t s sized e) k g ∙ square-leaving n t s l sized e (works .upper)
       ∙ ap (λ (x : List (List Float)). leaving x l (load n s)) below-is ∙ ap (λ (x : List Float). leaving (tails (dampingOf n ds s .0)) x (load n s)) diagonal-is
 
   -- LAW: the room that is left, but for work
   pub room-lowered : (s′ : List Float) → load n s′ ≡ withPart 2 l (load n (t ++ drop (n * n) s)) → load n s′ ≡ lowered (dampingOf n ds s) (load n s)
   unfolding lowered withPart
-  room-lowered s′ p =
-      p ∙ ap (λ (r : Room). withPart 2 l r) (square-lent n t s z e (h .upper ∙ square-upper n s) below-is)
+  room-lowered s′ g =
+      g ∙ ap (λ (r : Room). withPart 2 l r) (square-lent n t s sized e (works .upper ∙ square-upper n s) below-is)
       ∙ ap (λ (x : List Float). withPart 2 x (withSquare (load n s .upper) (tails (dampingOf n ds s .0)) (load n s))) diagonal-is
 
   -- LAW: and the step
   pub step-left : {x : List Float} → x ≡ dampedSolved l (belowsOf n (take (n * n) (t ++ drop (n * n) s))) w′ → x ≡ dampedStep (dampingOf n ds s)
-  step-left p =
-      p ∙ ap (λ (y : List Float). dampedSolved l (belowsOf n y) w′) (take-at t (drop (n * n) s) (n * n) (e ∙ square-of n s z .whole))
+  step-left g =
+      g ∙ ap (λ (y : List Float). dampedSolved l (belowsOf n y) w′) (take-at t (drop (n * n) s) (n * n) (e ∙ square-of n s sized .whole))
       ∙ ap (λ (y : List (List Float)). dampedSolved l y w′) below-is ∙ ap (λ (y : List Float). dampedSolved y (tails (dampingOf n ds s .0)) w′) diagonal-is
       ∙ ap (λ (y : List Float). dampedSolved (heads (dampingOf n ds s .0)) (tails (dampingOf n ds s .0)) y) right-is
 
@@ -115,8 +130,8 @@ module _ (n : ℕ) (os : List ℕ) (diag s ds s′ w : List Float) (g : ds ≡ g
   pub damped-out : (out : List Float) {out′ : List Float} → out′ ≡ scatter os w out → out′ ≡ scatter os (dampedStep (dampingOf n (gather os diag) s)) out
   damped-out out e = scattered os out e step-as
 
-  pub damped-finite : {b : Bool} → length w ≡ n → b ≡ allFinite (take n w) → b ≡ allFinite (dampedStep (dampingOf n (gather os diag) s))
-  damped-finite l e = finite-of n l e step-as
+  pub damped-finite : {b : Bool} → b ≡ allFinite w → b ≡ allFinite (dampedStep (dampingOf n (gather os diag) s))
+  damped-finite e = finite-of e step-as
 
   pub damped-emptied : {s″ : List Float} → Sized n s → Sized n s′ → s″ ≡ lay (emptied (load n s′)) → s″ ≡ lay (emptied (load n s))
   damped-emptied z z′ e = e ∙ ap lay (room-emptied n (dampingOf n (gather os diag) s) s s′ z z′ room-as)

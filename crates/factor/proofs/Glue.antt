@@ -1,11 +1,11 @@
 -- A part of the store worked on by itself, as what it says of the whole room. Assumes nothing.
-use mathlib.Core.Path.{_≡_, refl, sym, ap, _∙_}
+use mathlib.Core.Path.{_≡_, _∙_}
 use mathlib.Core.List.{List}
-use Prim.Native.Nat.{ℕ, _*_, _≤_}
-use native.Mathlib.Omega.{arith}
-use lib.ListN.{length, take}
+use Prim.Native.Nat.{ℕ, _*_}
+use lib.ListN.{take}
 use lib.Ieee.{Float}
-use Rattle.factor.specs.Room.{Sized, uppersOf, part, load}
+use Rattle.factor.specs.Room.{part, load}
+use Rattle.leaves.specs.Square.{uppersOf}
 use Rattle.factor.specs.Solve.{zeroSolved}
 use Rattle.factor.proofs.Layouts.{square-upper}
 

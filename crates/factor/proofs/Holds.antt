@@ -1,29 +1,30 @@
 -- The held calls over plain lists: what is worked on a lent square and on copied parts, as what it says of the room, and each call by
 -- its tests. Assumes nothing.
 use mathlib.Core.Path.{_≡_, refl, sym, ap, _∙_}
-use mathlib.Core.Bool.{Bool, true, false, true≢false}
+use mathlib.Core.Bool.{true, false, true≢false}
 use mathlib.Core.List.{List, [], _∷_, _++_}
 use Prim.Native.Nat.{ℕ, _*_, _<_, _≤_, min}
 use native.Mathlib.Omega.{arith}
-use lib.ListN.{length, getD, take, drop, replicate, length-replicate}
-use lib.Seq.{take-length, length-take-le}
+use lib.ListN.{length, getD, take, drop}
 use lib.Ieee.{Float}
 use borrow.Author.Tests.{ne-eqb}
-use Rattle.leaves.specs.Number.{plusZero}
 use Rattle.leaves.specs.Reply.{answered, refused}
 use Rattle.factor.specs.State.{isEmpty, isNothing}
-use Rattle.factor.specs.Room.{Room, Sized, uppersOf, belowsOf, part, load, lay, rested, zeros}
-use Rattle.factor.specs.Tests.{Test, firstOf, roomTests, heldTest, finiteTest, allFinite}
+use Rattle.factor.specs.Room.{Room, Sized, part, load, lay, rested}
+use Rattle.leaves.specs.Square.{uppersOf, belowsOf, zeros}
+use Rattle.leaves.specs.Tests.{Test, firstOf, allFinite}
+use Rattle.factor.specs.Tests.{roomTests, heldTest, finiteTest, solveTests}
 use Rattle.factor.specs.Solve.{gather}
 use Rattle.factor.specs.Held.{forwardUpper, forwardLower, mulUpper, mulLower, heldSolved, heldProduct}
-use Rattle.factor.specs.Calls.{ended, written, solveTests, restedIf, solveCall, mulCall}
+use Rattle.factor.specs.Outcome.{ended, written}
+use Rattle.factor.specs.HeldCalls.{restedIf, solveCall, mulCall}
 use Rattle.factor.specs.declared.state.Held.{Held}
 use Rattle.factor.specs.declared.state.Held.the-variants as held
 use Rattle.factor.specs.declared.state.State.{State}
 use Rattle.factor.proofs.Layouts.{square-upper, square-below, load-shaped}
 use Rattle.factor.proofs.Orders.{permutation-below}
 use Rattle.factor.proofs.Passed.{Ordered, solve-passed, room-passed, passed-sized}
-use Rattle.factor.proofs.Refusals.{numbered, passed-iff, none-of-both, test-met, test-passed, went-on, call-refused, call-worked}
+use Rattle.leaves.proofs.Refusals.{numbered, passed-iff, none-of-both, test-met, test-passed, went-on, call-refused, call-worked}
 
 -- ---- on the lent square and the copied parts
 module _ (n : ℕ) (s : List Float) where
@@ -52,9 +53,6 @@ pub never-nothing : {X : Type 0} {h : Held} → h ≡ held.Nothing → isNothing
 never-nothing e p = absurd (true≢false (sym (ap isNothing e) ∙ p))
 
 -- ---- the answer goes out
-pub finite-whole : (w : List Float) {b : Bool} → b ≡ allFinite (take (length w) w) → b ≡ allFinite w
-finite-whole w h = h ∙ ap allFinite (take-length w)
-
 pub written-by : (w out : List Float) {x : List Float} → x ≡ w → x ++ drop (length w) out ≡ written w out
 written-by w out h = ap (λ (l : List Float). l ++ drop (length w) out) h
 
@@ -113,16 +111,6 @@ mul-ready st store out e =
     let h = none-of-both ts (heldTest st ∷ []) (passed-iff (ts ++ (heldTest st ∷ [])) refl .0 e) in
     let p = room-passed st (length store) (length out) (passed-iff ts refl .1 (h .0)) in
     record { holding = (p .filled, h .1 .0); sized = passed-sized st store (length out) p; out-long = p .each-long }
-
--- ---- room for a number of each column
-room-long : {r : List Float} → r ≡ replicate 16 plusZero → length r ≡ 16
-room-long h = ap (λ (l : List Float). length l) h ∙ length-replicate 16 plusZero
-
-pub room-fits : (n : ℕ) {r : List Float} → r ≡ replicate 16 plusZero → n ≤ 16 → n ≤ length r
-room-fits n h l = let e = room-long h in omega arith
-
-pub room-part : (n : ℕ) {r : List Float} → r ≡ replicate 16 plusZero → n ≤ 16 → length (take n r) ≡ n
-room-part n {r} h l = length-take-le n r (room-fits n h l)
 
 -- ---- 8 or the answer
 rested-answered : (st : State) (r : Room) (x out : List Float) → true ≡ allFinite x → ended (answered tt) st (lay (rested r)) (written x out) ≡ restedIf st r x out

@@ -1,29 +1,20 @@
 -- The layout's laws: `lay` undoes `load` for every list, and `load` undoes `lay` for a shaped room. Assumes nothing.
 use mathlib.Core.Path.{_≡_, refl, sym, ap, _∙_}
-use mathlib.Core.List.{List, [], _∷_, _++_, append-assoc}
-use Prim.Native.Nat.{ℕ, zero, suc, _+_, _-_, _*_, _<_, _≤_}
-use native.Mathlib.Nat.{suc-mul, zero-mul}
+use mathlib.Core.List.{List, [], _++_}
+use Prim.Native.Nat.{ℕ, suc, _+_, _-_, _*_, _<_}
 use native.Mathlib.Omega.{arith}
-use lib.ListN.{length, getD, take, drop, take-append-drop, length-append, length-replicate}
-use lib.Seq.{take-take, take-add, take-at, drop-at, length-take-le}
+use lib.ListN.{length, getD, take, drop, take-append-drop, length-replicate}
+use lib.Seq.{take-at, length-take-le}
 use lib.Ieee.{Float}
 use Rattle.leaves.specs.Number.{plusZero}
 use Rattle.leaves.specs.Triangle.{columns}
-use Rattle.factor.specs.Room.{Room, Sized, Square, Shaped, uppersFrom, belowsFrom, uppersOf, belowsOf, part, load, joined, lay, zeros, cleared, leaving, rested, emptied}
-use Rattle.factor.proofs.Splices.{part-long, drop-take, part-rest, drop-past}
-use Rattle.factor.proofs.Squares.{uppersOf-length, belowsOf-length, upper-long, below-long}
+use Rattle.factor.specs.Room.{Room, Sized, Shaped, part, load, lay, leaving, rested, emptied}
+use Rattle.leaves.specs.Square.{Square, uppersFrom, belowsFrom, uppersOf, belowsOf, joined, zeros, cleared}
+use Rattle.leaves.proofs.Splices.{part-long, part-rest, drop-past}
+use Rattle.leaves.proofs.Squares.{uppersOf-length, belowsOf-length, upper-long, below-long}
+use Rattle.leaves.proofs.Joined.{Tall, belows-joined, cleared-tall, cleared-wide, columns-front, joined-columns, joined-long, uppers-joined}
 
 -- ---- columns are of the numbers that they take, and of no other
-
-pub columns-front : (n k : ℕ) (s : List Float) → columns n k (take (k * n) s) ≡ columns n k s
-unfolding columns
-columns-front n zero s = refl
-columns-front n (suc k) s =
-    let e : suc k * n ≡ n + k * n = omega (arith, suc-mul k n) in
-    rw (e, take-take n (n + k * n) s (omega arith), drop-take n (k * n) s, columns-front n k (drop n s))
-
-pub columns-same : (n k : ℕ) (s t : List Float) → take (k * n) s ≡ take (k * n) t → columns n k s ≡ columns n k t
-columns-same n k s t h = sym (columns-front n k s) ∙ ap (λ (l : List Float). columns n k l) h ∙ columns-front n k t
 
 -- the square that is lent has the room's R, and what stands below it
 pub square-upper : (n : ℕ) (s : List Float) → uppersOf n (take (n * n) s) ≡ load n s .upper
@@ -37,14 +28,16 @@ square-below n s = ap (λ (c : List (List Float)). belowsFrom 0 c) (columns-fron
 pub square-of : (n : ℕ) (s : List Float) → Sized n s → Square n (take (n * n) s)
 square-of n s z = let f = z .fits in record { small = z .small; whole = length-take-le (n * n) s (omega arith) }
 
--- ---- lay (load n s) ≡ s
+-- a part that is copied out is the room's
+pub qtb-is : (n : ℕ) (s : List Float) → part n 0 s ≡ load n s .qtb
+unfolding load
+qtb-is n s = refl
 
-joined-columns : (n k j : ℕ) (s : List Float) → joined (uppersFrom j (columns n k s)) (belowsFrom j (columns n k s)) ≡ take (k * n) s
-unfolding columns uppersFrom belowsFrom joined
-joined-columns n zero j s = rw zero-mul
-joined-columns n (suc k) j s =
-    let e : suc k * n ≡ n + k * n = omega (arith, suc-mul k n) in
-    rw (e, take-add n (k * n) s, take-append-drop (suc j) (take n s), joined-columns n k (suc j) (drop n s))
+pub norms-is : (n : ℕ) (s : List Float) → part n 1 s ≡ load n s .norms
+unfolding load
+norms-is n s = refl
+
+-- ---- lay (load n s) ≡ s
 
 -- LAW: for every list, long enough or not
 pub lay-load : (n : ℕ) (s : List Float) → lay (load n s) ≡ s
@@ -83,17 +76,6 @@ load-shaped n s z =
       work-long = part-long (n * n + 3 * n) n s (omega arith);
     }
 
-cleared-wide : (ls : List (List Float)) → length (cleared ls) ≡ length ls
-unfolding cleared
-cleared-wide [] = refl
-cleared-wide (l ∷ ls) = ap suc (cleared-wide ls)
-
-cleared-tall : (ls : List (List Float)) (k : ℕ) → length (getD (cleared ls) k []) ≡ length (getD ls k [])
-unfolding cleared
-cleared-tall [] k = refl
-cleared-tall (l ∷ ls) zero = length-replicate (length l) plusZero
-cleared-tall (l ∷ ls) (suc k) = cleared-tall ls k
-
 -- what calls leave is shaped where what they put in is
 module _ (n : ℕ) (r : Room) (z : Shaped n r) where
   pub leaving-shaped : (ls : List (List Float)) (l : List Float) → length ls ≡ n → ((k : ℕ) → k < n → length (getD ls k []) ≡ n - suc k) → length l ≡ n
@@ -119,73 +101,6 @@ module _ (n : ℕ) (r : Room) (z : Shaped n r) where
       (λ k h. cleared-tall (r .below) k ∙ z .below-tall k h) (length-replicate (length (r .ldiag)) plusZero ∙ z .ldiag-long)
 
 -- ---- load n (lay r) ≡ r
-
--- columns from column j on, by their upper and lower ends, each of n numbers
-record Tall (n j : ℕ) (us ls : List (List Float)) : Type 0 where
-  fits : j + length us ≤ n
-  wide : length us ≡ length ls
-  uppers : (k : ℕ) → k < length us → length (getD us k []) ≡ suc (j + k)
-  belows : (k : ℕ) → k < length us → length (getD ls k []) ≡ n - suc (j + k)
-
-module _ {n j : ℕ} {u l : List Float} {us ls : List (List Float)} (h : Tall n j (u ∷ us) (l ∷ ls)) where
-  tall-rest : Tall n (suc j) us ls
-  tall-rest =
-      let f = h .fits in
-      let w = h .wide in
-      record {
-        fits = omega arith;
-        wide = omega arith;
-        uppers = λ k p. h .uppers (suc k) (omega arith) ∙ omega arith;
-        belows = λ k p. h .belows (suc k) (omega arith) ∙ omega arith;
-      }
-
-  upper-first : length u ≡ suc j
-  upper-first = h .uppers 0 (omega arith) ∙ omega arith
-
-  column-first : length (u ++ l) ≡ n
-  column-first =
-      let f = h .fits in
-      let a = h .uppers 0 (omega arith) in
-      let b = h .belows 0 (omega arith) in
-      length-append u l ∙ omega arith
-
-joined-long : (n j : ℕ) (us ls : List (List Float)) → Tall n j us ls → length (joined us ls) ≡ length us * n
-unfolding joined
-joined-long n j [] ls h = rw zero-mul
-joined-long n j (u ∷ us) [] h = let w = h .wide in absurd (omega arith)
-joined-long n j (u ∷ us) (l ∷ ls) h =
-    let e = column-first h in
-    let r = joined-long n (suc j) us ls (tall-rest h) in
-    length-append (u ++ l) (joined us ls) ∙ omega (arith, suc-mul (length us) n)
-
-uppers-joined : (n j : ℕ) (us ls : List (List Float)) (w : List Float) → Tall n j us ls → uppersFrom j (columns n (length us) (joined us ls ++ w)) ≡ us
-unfolding joined columns uppersFrom
-uppers-joined n j [] ls w h = refl
-uppers-joined n j (u ∷ us) [] w h = let w = h .wide in absurd (omega arith)
-uppers-joined n j (u ∷ us) (l ∷ ls) w h =
-    let e = column-first h in
-    rw (
-      append-assoc (u ++ l) (joined us ls) w,
-      take-at (u ++ l) (joined us ls ++ w) n e,
-      drop-at (u ++ l) (joined us ls ++ w) n e,
-      take-at u l (suc j) (upper-first h),
-      uppers-joined n (suc j) us ls w (tall-rest h),
-    )
-
-belows-joined : (n j : ℕ) (us ls : List (List Float)) (w : List Float) → Tall n j us ls → belowsFrom j (columns n (length us) (joined us ls ++ w)) ≡ ls
-unfolding joined columns belowsFrom
-belows-joined n j [] [] w h = refl
-belows-joined n j [] (l ∷ ls) w h = let w = h .wide in absurd (omega arith)
-belows-joined n j (u ∷ us) [] w h = let w = h .wide in absurd (omega arith)
-belows-joined n j (u ∷ us) (l ∷ ls) w h =
-    let e = column-first h in
-    rw (
-      append-assoc (u ++ l) (joined us ls) w,
-      take-at (u ++ l) (joined us ls ++ w) n e,
-      drop-at (u ++ l) (joined us ls ++ w) n e,
-      drop-at u l (suc j) (upper-first h),
-      belows-joined n (suc j) us ls w (tall-rest h),
-    )
 
 -- the four parts behind a square, and the rest
 parts-laid : (n : ℕ) (r : Room) → Shaped n r →

@@ -1,67 +1,24 @@
 -- R and qt_b laid out, column by column. Assumes nothing.
 use mathlib.Core.Path.{_≡_, refl, sym, ap, _∙_}
 use mathlib.Core.Bool.{Bool, true, false, cond, _&&_}
-use mathlib.Core.List.{List, [], _∷_, _++_, map, append-assoc}
+use mathlib.Core.List.{List, [], _∷_, _++_, append-assoc}
 use Prim.Native.Nat.{ℕ, zero, suc, _+_, _-_, _*_, _<_, _≤_, min}
 use native.Mathlib.Nat.{suc-mul, zero-mul, zero-add, add-comm, not-suc-le-zero, le-of-suc-le-suc, min-eq-left, min-eq-right, sub-self}
 use native.Mathlib.Numerals.{add-one}
 use native.Mathlib.Omega.{arith}
 use lib.Dec.{ltb}
-use lib.ListN.{length, getD, take, drop, set, length-append, length-replicate, length-drop, replicate-append-replicate, drop-of-length-le}
-use lib.Seq.{length-take-le, take-all, take-at, drop-at, take-add, drop-drop, take-append-le, set-at, getD-take, drop-cons}
+use lib.ListN.{length, getD, take, drop, set, length-append, length-replicate, replicate-append-replicate}
+use lib.Seq.{length-take-le, take-all, take-at, drop-at, drop-drop, take-append-le, set-at}
 use lib.Ieee.{Float, nan}
 use borrow.Author.Tests.{lt-ltb, le-ltb, ltb-true, ltb-false}
 use Rattle.leaves.specs.Number.{plusZero, isFinite}
-use Rattle.leaves.specs.Norm.{norm}
-use Rattle.factor.specs.Loop.{countFrom}
-use Rattle.factor.specs.Room.{joined, zeros}
-use Rattle.factor.specs.Tests.{allFinite}
-use Rattle.factor.specs.Factor.{upperColumn, uppers, noLower, transformed}
-use Rattle.factor.specs.Calls.{allFiniteIn}
-use Rattle.factor.specs.Bench.{grid, Benched}
-use Rattle.factor.specs.Patch.{patch}
+use Rattle.leaves.specs.Square.{joined, zeros}
+use Rattle.leaves.specs.Tests.{allFinite}
+use Rattle.factor.specs.Factoring.{upperColumn, uppers, noLower, transformed, allFiniteIn}
+use Rattle.leaves.specs.Patch.{patch}
 use Rattle.leaves.proofs.Triangles.{column-fits}
-use Rattle.factor.proofs.Squares.{columns-length}
-use Rattle.factor.proofs.Grids.{part-long, column-long}
-
-pub append-nil : {A : Type 0} (l : List A) → l ++ [] ≡ l
-append-nil [] = refl
-append-nil (x ∷ xs) = ap (λ (r : List _). x ∷ r) (append-nil xs)
-
--- the first i of s replaced by those of t
-abbrev pub over : {A : Type 0} → ℕ → List A → List A → List A
-over i t s = take i t ++ drop i s
-
-pub over-set : {A : Type 0} (d : A) (t s : List A) (i : ℕ) → i < length t → i < length s → set (over i t s) i (getD t i d) ≡ over (suc i) t s
-over-set d [] s i h k = absurd (not-suc-le-zero h)
-over-set d (x ∷ t) [] i h k = absurd (not-suc-le-zero k)
-over-set d (x ∷ t) (y ∷ s) zero h k = refl
-over-set d (x ∷ t) (y ∷ s) (suc i) h k = ap (λ (r : List _). x ∷ r) (over-set d t s i (le-of-suc-le-suc h) (le-of-suc-le-suc k))
-
-pub over-end : {A : Type 0} (t s : List A) (i : ℕ) → length t ≤ i → length s ≤ i → over i t s ≡ t
-over-end t s i h k = rw (take-all i t h, drop-of-length-le s {i = i} k) (append-nil t)
-
-pub over-turn : {A : Type 0} (d : A) (t s s′ : List A) (v : A) (i : ℕ) → i < length t → length t ≡ length s → v ≡ getD t i d → s′ ≡ over i t s → set s′ i v ≡ over (i + 1) t s
-over-turn d t s s′ v i h e w q = rw (q, w, add-one) (over-set d t s i h (omega arith))
-
--- the next k of t put in their place
-pub over-chunk : {A : Type 0} (a k : ℕ) (t s : List A) → a ≤ length t → patch a k (over a t s) (take k (drop a t)) ≡ over (a + k) t s
-over-chunk a k t s h =
-    let l : length (take a t) ≡ a = length-take-le a t h in
-    rw (take-at (take a t) (drop a s) a l, drop-at (take a t) (drop a s) a l, drop-drop k a s, take-add a k t, append-assoc (take a t) (take k (drop a t)) (drop (a + k) s))
-
--- two parts written one after the other: the first as a front, the second from p to e
-pub two-parts : (p w : ℕ) (a b s y z : List Float) → length a ≡ p → length s ≡ p + w → y ≡ a → z ≡ b
-    → take p (y ++ drop p s) ++ (z ++ drop w (drop p (y ++ drop p s))) ≡ a ++ b
-two-parts p w a b s y z la ls ey ez =
-    let d : drop w (drop p s) ≡ [] = drop-of-length-le (drop p s) {i = w} (simp length-drop (omega arith)) in
-    rw (ey, ez, take-at a (drop p s) p la, drop-at a (drop p s) p la, d, append-nil b)
-
-pub second-long : (p w : ℕ) (s y : List Float) → length y ≡ p → length s ≡ p + w → length (take w (drop p (y ++ drop p s))) ≡ w
-second-long p w s y ly ls = rw (drop-at y (drop p s) p ly) (length-take-le w (drop p s) (simp length-drop (omega arith)))
-
-pub filled : (p w : ℕ) (s y z : List Float) → length y ≡ p → length s ≡ p + w → z ≡ zeros (length (take w (drop p (y ++ drop p s)))) → z ≡ zeros w
-filled p w s y z ly ls e = e ∙ ap zeros (second-long p w s y ly ls)
+use Rattle.leaves.proofs.Grids.{part-long}
+use Rattle.leaves.proofs.Overs.{append-nil, over, over-chunk}
 
 -- ---- a column of R
 pub column-low : (m k n : ℕ) (c : List Float) (d : Float) → length c ≡ m → m ≤ k → k < n → take m c ++ zeros (n - m) ≡ upperColumn m k c d ++ zeros (n - suc k)
@@ -198,48 +155,3 @@ finite-square zero (u ∷ us) = finite-append u (joined us []) ∙ ap (λ (t : B
 finite-square (suc p) (u ∷ us) =
     finite-append (u ++ zeros p) (joined us (noLower p))
     ∙ rw (finite-append u (zeros p), finite-zeros p, and-true (allFinite u), finite-square p us)
-
-pub finite-step : (ok : Bool) (v : List Float) (n i : ℕ) → i < n → n ≤ length v
-    → ((ok && isFinite (getD v i nan)) && allFinite (drop (i + 1) (take n v))) ≡ (ok && allFinite (drop i (take n v)))
-unfolding allFinite
-finite-step ok v n i h k =
-    let l : length (take n v) ≡ n = length-take-le n v k in
-    rw (add-one, drop-cons (take n v) i nan (omega arith), getD-take n v i nan h) (go ok)
-  where
-    go : (b : Bool) → ((b && isFinite (getD v i nan)) && allFinite (drop (suc i) (take n v))) ≡ (b && (isFinite (getD v i nan) && allFinite (drop (suc i) (take n v))))
-    go true = refl
-    go false = refl
-
-pub finite-end : (ok : Bool) (v : List Float) (n i : ℕ) → n ≤ length v → n ≤ i → (ok && allFinite (drop i (take n v))) ≡ ok
-unfolding allFinite
-finite-end ok v n i k h =
-    let l : length (take n v) ≡ n = length-take-le n v k in
-    rw (drop-of-length-le (take n v) {i = i} (omega arith)) (and-true ok)
-
--- ---- counting
-pub count-length : (k a : ℕ) → length (countFrom k a) ≡ k
-unfolding countFrom
-count-length zero a = refl
-count-length (suc k) a = ap suc (count-length k (suc a))
-
-pub count-at : (k a i : ℕ) → i < k → getD (countFrom k a) i 0 ≡ a + i
-unfolding countFrom
-count-at zero a i h = absurd (not-suc-le-zero h)
-count-at (suc k) a zero h = omega arith
-count-at (suc k) a (suc i) h = count-at k (suc a) i (le-of-suc-le-suc h) ∙ omega arith
-
-pub norms-length : (cs : List (List Float)) → length (map norm cs) ≡ length cs
-norms-length [] = refl
-norms-length (c ∷ cs) = ap suc (norms-length cs)
-
-pub norms-at : (cs : List (List Float)) (i : ℕ) → i < length cs → getD (map norm cs) i nan ≡ norm (getD cs i [])
-norms-at [] i h = absurd (not-suc-le-zero h)
-norms-at (c ∷ cs) zero h = refl
-norms-at (c ∷ cs) (suc i) h = norms-at cs i (le-of-suc-le-suc h)
-
--- ---- the columns of a bench
-pub bench-wide : (m n : ℕ) (s : List Float) → length (take n (grid m n s)) ≡ n
-bench-wide m n s = length-take-le n (grid m n s) (let l = columns-length m (suc n) s in omega arith)
-
-pub bench-long : (m n : ℕ) (s : List Float) → Benched m n s → (l : ℕ) → l < n → length (getD (take n (grid m n s)) l []) ≡ m
-bench-long m n s b l h = rw (getD-take n (grid m n s) l [] h) (column-long m (suc n) s l (omega arith) (let w = b .whole in omega arith))

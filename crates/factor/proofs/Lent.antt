@@ -14,15 +14,14 @@ use lib.Seq.{take-append-le, drop-drop, ext-getD, getD-set-same, getD-set-other}
 use lib.Ieee.{Float}
 use borrow.Author.Tests.{eq-eqb, ne-eqb}
 use Rattle.leaves.specs.Number.{plusZero}
-use Rattle.leaves.specs.Reply.{Reply}
-use Rattle.leaves.specs.Vector.{copy}
 use Rattle.leaves.specs.Triangle.{columns}
-use Rattle.leaves.proofs.Folds.{copy-is}
 use Rattle.leaves.proofs.Triangles.{column-fits}
-use Rattle.factor.specs.Room.{Room, Sized, Square, Shaped, uppersOf, belowsOf, part, load, zeros, cleared, leaving, withPart, rested, emptied}
-use Rattle.factor.proofs.Splices.{splice, splice-twice, lent, filled, part-long, drop-front, drop-take, splice-length, splice-take, splice-before, splice-at, splice-drop}
-use Rattle.factor.proofs.Squares.{uppersOf-length, belowsOf-length, column-end, upper-at, below-at}
-use Rattle.factor.proofs.Layouts.{columns-same, square-upper, square-of}
+use Rattle.factor.specs.Room.{Room, Sized, Shaped, part, load, leaving, withPart, rested, emptied}
+use Rattle.leaves.specs.Square.{Square, uppersOf, belowsOf, zeros, cleared}
+use Rattle.leaves.proofs.Splices.{splice, splice-twice, lent, filled, part-long, drop-front, drop-take, splice-length, splice-take, splice-before, splice-at, splice-drop}
+use Rattle.leaves.proofs.Squares.{uppersOf-length, belowsOf-length, column-end, upper-at, below-at}
+use Rattle.leaves.proofs.Joined.{columns-same}
+use Rattle.factor.proofs.Layouts.{square-upper, square-of}
 
 -- ---- a part that was lent
 
@@ -90,9 +89,6 @@ last-lent n a y s z e g =
     (load-put n 3 (zeros n) x k (omega arith) (omega arith) ∙ ap (λ (r : Room). withPart 3 (zeros n) r) one)
 
 -- what `copy` leaves of slices of one length
-pub copy-leaves : (xs ys l : List Float) {d : Reply (Unit {0})} → length xs ≡ length ys → (d, l) ≡ copy xs ys → l ≡ xs
-copy-leaves xs ys l h e = ap (λ (p : Reply (Unit {0}) × List Float). p .1) (e ∙ sym (copy-is xs ys xs h refl))
-
 -- what every call that passes its checks leaves, as two parts put
 pub left-as : (n : ℕ) (l : List Float) (r : Room) → Shaped n r → withPart 3 (zeros n) (withPart 2 l r) ≡ leaving (r .below) l r
 unfolding withPart leaving

@@ -1,21 +1,18 @@
 -- No second outcome fits the contract of a factoring: `Post` is what the source's `ensures` says. Assumes nothing.
-use Prim.Native.Nat.{ℕ}
 use mathlib.Core.Path.{_≡_, sym, ap, _∙_}
-use mathlib.Core.List.{List}
-use lib.Ieee.{Float}
 use contract.Lifetimes.{Lfts}
-use denote.Ref.{RefT, now}
+use denote.Ref.{now}
 use borrow.Fn.World.{ArgsD}
 use borrow.Fn.Kinds.{endedOf}
 use denote.Triple.Clauses.{AtExit}
 use Rattle.leaves.proofs.Replies.{doneOf-same}
-use Rattle.factor.specs.Calls.{Factored}
+use Rattle.factor.specs.Factoring.{Factored}
 use Rattle.leaves.specs.declared.reply.Done.{Done}
 use Rattle.factor.specs.declared.state.State.{State}
 use Rattle.factor.specs.declared.state.Told.{Told}
-use Rattle.factor.proofs.factoring.pivoted_qr.{signature}
-use Rattle.factor.proofs.factoring.pivoted_qr.Reads as pivoted-qr
-use Rattle.factor.proofs.factoring.pivoted_qr.Kinds as kinds
+use Rattle.factor.proofs.pivoted_qr.pivoted_qr.{signature}
+use Rattle.factor.proofs.pivoted_qr.pivoted_qr.Reads as pivoted-qr
+use Rattle.factor.proofs.pivoted_qr.pivoted_qr.Kinds as kinds
 
 pub pivoted-qr-one-outcome : (κs : Lfts 5) (a : ArgsD signature κs) (r₁ r₂ : Told) (s₁ s₂ : AtExit (endedOf 5 kinds.ps kinds.r) κs)
     → pivoted-qr.Post κs a r₁ s₁ → pivoted-qr.Post κs a r₂ s₂

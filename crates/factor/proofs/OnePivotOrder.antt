@@ -10,11 +10,9 @@ use denote.Triple.Clauses.{AtExit}
 use Rattle.leaves.specs.Reply.{doneOf}
 use Rattle.leaves.specs.declared.reply.Done.{Done}
 use Rattle.leaves.proofs.Replies.{doneOf-same}
-use Rattle.factor.specs.Calls.{Told, Ended, told, ended}
+use Rattle.factor.specs.Outcome.{Left, left}
 use Rattle.factor.specs.declared.answer.Truth.{Truth}
-use Rattle.factor.specs.declared.state.State.{State}
-use Rattle.factor.proofs.Answers.{truthOf-same}
-use Rattle.factor.proofs.OneReader.{read-same}
+use Rattle.factor.proofs.Answers.{truthOf-same, read-same}
 use Rattle.factor.proofs.pivot_order.zero.{signature as zero-signature}
 use Rattle.factor.proofs.pivot_order.zero.Reads as zero
 use Rattle.factor.proofs.pivot_order.zero.Kinds as zero-kinds
@@ -39,7 +37,7 @@ use Rattle.factor.proofs.pivot_order.empty.Kinds as empty-kinds
 
 -- ---- an answer and the slice that is written
 pub zero-one-outcome : (κs : Lfts 2) (a : ArgsD zero-signature κs) (r₁ r₂ : Done) (s₁ s₂ : AtExit (endedOf 2 zero-kinds.ps zero-kinds.r) κs)
-    → zero.Post κs a r₁ s₁ → zero.Post κs a r₂ s₂ → (r₁ ≡ r₂) × (now (s₁ .1 .1 .0) ≡ now (s₂ .1 .1 .0))
+    → zero.Post κs a r₁ s₁ → zero.Post κs a r₂ s₂ → (r₁ ≡ r₂) × (now (s₁ .1 .1 .1 .0) ≡ now (s₂ .1 .1 .1 .0))
 zero-one-outcome κs a r₁ r₂ s₁ s₂ p q = read-same r₁ r₂ (p ∙ sym q)
 
 pub held-zero-one-outcome : (κs : Lfts 2) (a : ArgsD held-zero-signature κs) (r₁ r₂ : Done) (s₁ s₂ : AtExit (endedOf 2 held-zero-kinds.ps held-zero-kinds.r) κs)
@@ -54,24 +52,17 @@ pub product-one-outcome : (κs : Lfts 2) (a : ArgsD product-signature κs) (r₁
     → product.Post κs a r₁ s₁ → product.Post κs a r₂ s₂ → (r₁ ≡ r₂) × (now (s₁ .1 .1 .0) ≡ now (s₂ .1 .1 .0))
 product-one-outcome κs a r₁ r₂ s₁ s₂ p q = read-same r₁ r₂ (p ∙ sym q)
 
+pub empty-one-outcome : (κs : Lfts 1) (a : ArgsD empty-signature κs) (r₁ r₂ : Done) (s₁ s₂ : AtExit (endedOf 1 empty-kinds.ps empty-kinds.r) κs)
+    → empty.Post κs a r₁ s₁ → empty.Post κs a r₂ s₂ → (r₁ ≡ r₂) × (now (s₁ .1 .0) ≡ now (s₂ .1 .0))
+empty-one-outcome κs a r₁ r₂ s₁ s₂ p q = read-same r₁ r₂ (p ∙ sym q)
+
 -- ---- and the store
-both-same : (r t : Done) {st : State} {s u o p : List Float} → ended (doneOf r) st s o ≡ ended (doneOf t) st u p → (r ≡ t) × (s ≡ u) × (o ≡ p)
-both-same r t e = (
-  doneOf-same r t (ap (λ (x : Ended (Unit {0})). x .reply) e),
-  ap (λ (x : Ended (Unit {0})). x .store) e,
-  ap (λ (x : Ended (Unit {0})). x .out) e,
-)
+left-same : (r t : Done) {s u o p : List Float} → left (doneOf r) s o ≡ left (doneOf t) u p → (r ≡ t) × (s ≡ u) × (o ≡ p)
+left-same r t e = (doneOf-same r t (ap (λ (x : Left). x .reply) e), ap (λ (x : Left). x .store) e, ap (λ (x : Left). x .out) e)
 
 pub damped-one-outcome : (κs : Lfts 3) (a : ArgsD damped-signature κs) (r₁ r₂ : Done) (s₁ s₂ : AtExit (endedOf 3 damped-kinds.ps damped-kinds.r) κs)
     → damped.Post κs a r₁ s₁ → damped.Post κs a r₂ s₂ → (r₁ ≡ r₂) × (now (s₁ .1 .0) ≡ now (s₂ .1 .0)) × (now (s₁ .1 .1 .1 .0) ≡ now (s₂ .1 .1 .1 .0))
-damped-one-outcome κs a r₁ r₂ s₁ s₂ p q = both-same r₁ r₂ (p ∙ sym q)
-
-store-same : (r t : Done) {st : State} {s u : List Float} → told (doneOf r) st s ≡ told (doneOf t) st u → (r ≡ t) × (s ≡ u)
-store-same r t e = (doneOf-same r t (ap (λ (x : Told (Unit {0})). x .reply) e), ap (λ (x : Told (Unit {0})). x .store) e)
-
-pub empty-one-outcome : (κs : Lfts 1) (a : ArgsD empty-signature κs) (r₁ r₂ : Done) (s₁ s₂ : AtExit (endedOf 1 empty-kinds.ps empty-kinds.r) κs)
-    → empty.Post κs a r₁ s₁ → empty.Post κs a r₂ s₂ → (r₁ ≡ r₂) × (now (s₁ .1 .0) ≡ now (s₂ .1 .0))
-empty-one-outcome κs a r₁ r₂ s₁ s₂ p q = store-same r₁ r₂ (p ∙ sym q)
+damped-one-outcome κs a r₁ r₂ s₁ s₂ p q = left-same r₁ r₂ (p ∙ sym q)
 
 -- ---- nothing is written
 pub full-rank-one-outcome : (κs : Lfts 1) (a : ArgsD full-rank-signature κs) (r₁ r₂ : Truth) (s₁ s₂ : AtExit (endedOf 1 full-rank-kinds.ps full-rank-kinds.r) κs)

@@ -8,13 +8,14 @@ use Prim.Native.Nat.{ℕ, zero, suc, _<_, _≤_}
 use native.Mathlib.Nat.{not-suc-le-zero, le-of-suc-le-suc}
 use native.Mathlib.Omega.{arith}
 use lib.Dec.{ltb, eqb}
-use lib.ListN.{length, getD, take, drop, set, length-set, length-take}
+use lib.ListN.{length, getD, take, drop, set, length-set}
 use lib.Seq.{getD-take, length-take-le, getD-set-same, getD-set-other, drop-set-lt}
 use lib.Ieee.{Float, nan}
 use borrow.Author.Tests.{lt-ltb, ltb-true, eqb-true, eqb-false, not-true}
-use Rattle.factor.specs.Tests.{absent, distinctBelow, isPermutation, allFinite}
+use Rattle.factor.specs.Tests.{absent, distinctBelow, isPermutation}
 use Rattle.factor.specs.Solve.{scatter}
-use Rattle.factor.proofs.Passed.{finite-entry, finite-all}
+use Rattle.factor.proofs.Passed.{Ordered}
+use Rattle.factor.specs.declared.state.State.{State}
 
 -- ---- the test, one entry at a time
 module _ (v x : ℕ) (xs : List ℕ) (h : absent v (x ∷ xs) ≡ true) where
@@ -163,13 +164,7 @@ module _ (n : ℕ) (order : List ℕ) (xs out : List Float) (h : isPermutation n
       let q = permutation-onto n order h long v p in
       (q .0, (q .1 .0, rw (q .1 .1) at (scatter-at l r (q .0) (q .1 .0))))
 
-  -- the surplus is not touched
-  pub scatter-surplus : drop n laid ≡ drop n out
-  scatter-surplus = scatter-beyond n (take n order) xs out h
-
-  -- a finite answer is finite where it is laid out
-  pub scatter-finite : length xs ≡ n → n ≤ length out → allFinite xs ≡ true → allFinite (take n laid) ≡ true
-  scatter-finite l r f = finite-all (take n laid) (λ i p.
-      let b : i < n = omega (arith, length-take n laid) in
-      let q = scatter-onto (omega arith) r i b in
-      rw (getD-take n laid i nan b, q .1 .1) (finite-entry xs f (q .0) (omega (arith, q .1 .0))))
+-- ---- an order list that passed its test
+pub ordered-below : (st : State) (store : ℕ) (order : List ℕ) (shortest : ℕ) → Ordered st store order shortest
+    → (k : ℕ) → k < st .n → getD order k 0 < st .n
+ordered-below st store order shortest o = permutation-below (st .n) order (o .permuted) (o .order-long)

@@ -1,53 +1,40 @@
 -- What is known once the tests are passed. Assumes nothing.
 use mathlib.Core.Path.{_≡_, refl}
-use mathlib.Core.Bool.{Bool, true, false, _||_, true≢false, and-eq-true-iff}
+use mathlib.Core.Bool.{true, false, _||_, and-eq-true-iff}
 use mathlib.Core.List.{List, [], _∷_, _++_}
 use Prim.Native.Nat.{ℕ, zero, suc, _*_, _<_, _≤_, min}
-use native.Mathlib.Nat.{mul-le-mul, min-eq-left, le-refl, not-suc-le-zero, le-of-suc-le-suc}
+use native.Mathlib.Nat.{min-eq-left, le-refl, not-suc-le-zero, le-of-suc-le-suc}
 use native.Mathlib.Omega.{arith}
-use lib.Dec.{ltb, eqb}
+use lib.Dec.{ltb}
 use lib.ListN.{length, take, getD}
 use lib.Ieee.{Float, nan}
-use borrow.Author.Tests.{ltb-false, eqb-false, not-false}
+use borrow.Author.Tests.{ltb-false, not-false}
 use Rattle.leaves.specs.Number.{isFinite}
-use Rattle.leaves.proofs.Folds.{nonzero}
-use Rattle.factor.specs.State.{isEmpty, outside, storeNeed, benchNeed}
+use Rattle.factor.specs.State.{isEmpty, storeNeed, benchNeed}
+use Rattle.leaves.specs.Tests.{outside, firstOf, allFinite}
 use Rattle.factor.specs.Room.{Sized}
-use Rattle.factor.specs.Tests.{firstOf, isPermutation, allFinite, roomTests, orderTest}
-use Rattle.factor.specs.Calls.{solveTests, factorTests}
+use Rattle.factor.specs.Tests.{isPermutation, sizeTests, tested, roomTests, orderTest, solveTests}
+use Rattle.factor.specs.Factoring.{factorTests}
 use Rattle.factor.specs.declared.state.State.{State}
-use Rattle.factor.proofs.Refusals.{NoneHold, passed-iff, none-of-both}
+use Rattle.leaves.proofs.Refusals.{NoneHold, passed-iff, none-of-both}
+use Rattle.leaves.proofs.Insides.{neither, Inside, inside}
 
-neither : (a b : Bool) → (a || b) ≡ false → (a ≡ false) × (b ≡ false)
-neither true b h = absurd (true≢false h)
-neither false b h = (refl, h)
+-- ---- what every working on lent numbers tests
+pub record Fit (m n : ℕ) (store shortest : ℕ) : Type 0 where
+  pub sizes : Inside m n
+  pub store-long : storeNeed n ≤ store
+  pub each-long : n ≤ shortest
 
--- ---- 2: sizes within their ranges
-pub record Inside (m n : ℕ) : Type 0 where
-  pub rows-some : 0 < m
-  pub rows-few : m ≤ 128
-  pub cols-some : 0 < n
-  pub cols-few : n ≤ 16
+fit-of : (m n store shortest : ℕ) → NoneHold (sizeTests m n store shortest) → Fit m n store shortest
+fit-of m n store shortest h =
+    let s = neither (ltb store (storeNeed n)) (ltb shortest n) (h .1 .0) in
+    record { sizes = inside m n (h .0); store-long = ltb-false store (storeNeed n) (s .0); each-long = ltb-false shortest n (s .1) }
 
-pub inside : (m n : ℕ) → outside m n ≡ false → Inside m n
-unfolding outside
-inside m n h =
-    let a = neither (eqb m 0 || ltb 128 m || eqb n 0) (ltb 16 n) h in
-    let b = neither (eqb m 0 || ltb 128 m) (eqb n 0) (a .0) in
-    let d = neither (eqb m 0) (ltb 128 m) (b .0) in
-    record {
-      rows-some = nonzero m (eqb-false m 0 (d .0));
-      rows-few = ltb-false 128 m (d .1);
-      cols-some = nonzero n (eqb-false n 0 (b .1));
-      cols-few = ltb-false 16 n (a .1);
-    }
+pub sizes-passed : (m n : ℕ) (store : List Float) (shortest : ℕ) → tested m n store shortest ≡ 0 → Fit m n (length store) shortest
+sizes-passed m n store shortest e = fit-of m n (length store) shortest (passed-iff (sizeTests m n (length store) shortest) refl .0 e)
 
--- so that the needed lengths are small
-pub square-small : {m n : ℕ} → Inside m n → n * n ≤ 256
-square-small i = mul-le-mul (i .cols-few) (i .cols-few)
-
-pub jacobian-small : {m n : ℕ} → Inside m n → m * n ≤ 2048
-jacobian-small i = mul-le-mul (i .rows-few) (i .cols-few)
+pub fit-sized : (m n : ℕ) (s : List Float) (shortest : ℕ) → Fit m n (length s) shortest → Sized n s
+fit-sized m n s shortest p = record { small = p .sizes .cols-few; fits = p .store-long }
 
 -- ---- what every call with a state tests first
 pub record Passed (st : State) (store shortest : ℕ) : Type 0 where
@@ -58,13 +45,8 @@ pub record Passed (st : State) (store shortest : ℕ) : Type 0 where
 
 passed-of : (st : State) (store shortest : ℕ) → NoneHold (roomTests st store shortest) → Passed st store shortest
 passed-of st store shortest h =
-    let s = neither (ltb store (storeNeed (st .n))) (ltb shortest (st .n)) (h .1 .1 .0) in
-    record {
-      filled = h .0;
-      sizes = inside (st .m) (st .n) (h .1 .0);
-      store-long = ltb-false store (storeNeed (st .n)) (s .0);
-      each-long = ltb-false shortest (st .n) (s .1);
-    }
+    let f = fit-of (st .m) (st .n) store shortest (h .1) in
+    record { filled = h .0; sizes = f .sizes; store-long = f .store-long; each-long = f .each-long }
 
 pub room-passed : (st : State) (store shortest : ℕ) → firstOf (roomTests st store shortest) ≡ 0 → Passed st store shortest
 room-passed st store shortest e = passed-of st store shortest (passed-iff (roomTests st store shortest) refl .0 e)
@@ -123,6 +105,9 @@ factor-passed m n jacobian residuals store order bench e =
       jacobian-finite = not-false (allFinite (take (m * n) jacobian)) (h .1 .1 .0);
       residuals-finite = not-false (allFinite (take m residuals)) (h .1 .1 .1 .0);
     }
+
+pub factor-inside : (m n : ℕ) (jacobian residuals : List Float) (store order bench : ℕ) → firstOf (factorTests m n jacobian residuals store order bench) ≡ 0 → outside m n ≡ false
+factor-inside m n jacobian residuals store order bench e = passed-iff (factorTests m n jacobian residuals store order bench) refl .0 e .0
 
 -- ---- 6, entry by entry
 pub finite-entry : (xs : List Float) → allFinite xs ≡ true → (i : ℕ) → i < length xs → isFinite (getD xs i nan) ≡ true

@@ -1,9 +1,9 @@
 -- Rank and determined place by place, the zero solve, and where an answer entry goes. Assumes nothing.
 use mathlib.Core.Path.{_≡_, refl, sym, ap, _∙_}
 use mathlib.Core.Bool.{Bool, true, false, cond, not, _&&_}
-use mathlib.Core.List.{List, [], _∷_, _++_, map, append-nil}
+use mathlib.Core.List.{List, [], _∷_, _++_, append-nil}
 use Prim.Native.Nat.{ℕ, zero, suc, _+_, _-_, _*_, _<_, _≤_, min}
-use native.Mathlib.Nat.{le-refl, le-step, not-suc-le-zero, le-of-suc-le-suc, mul-le-mul-right}
+use native.Mathlib.Nat.{le-refl, le-step, mul-le-mul-right}
 use native.Mathlib.Numerals.{add-one}
 use native.Mathlib.Omega.{arith}
 use lib.Dec.{ltb}
@@ -15,9 +15,10 @@ use Rattle.leaves.specs.Number.{plusZero}
 use Rattle.leaves.specs.Reply.{Reply}
 use Rattle.leaves.specs.Triangle.{columns, solvePlace, solveDown, solveUpper}
 use Rattle.leaves.proofs.Triangles.{column-at, solved}
-use Rattle.factor.specs.Room.{Square, uppersOf, diagonal, zeros}
-use Rattle.factor.specs.Solve.{rank, leading, noZero, nonSingular, determinedOf, scatter, gather, padded, zeroSolved}
-use Rattle.factor.proofs.Squares.{diagonal-length, uppersOf-length, upper-at}
+use Rattle.leaves.specs.Square.{Square, uppersOf, diagonal, zeros}
+use Rattle.factor.specs.Solve.{rank, noZero, nonSingular, scatter, gather, padded, zeroSolved}
+use Rattle.leaves.proofs.Fronts.{map-at}
+use Rattle.leaves.proofs.Squares.{diagonal-length, uppersOf-length, upper-at}
 
 -- ---- the first `top` of R's diagonal
 pub top-long : (n top : ℕ) (s : List Float) → top ≤ n → length (take top (diagonal (uppersOf n s))) ≡ top
@@ -53,10 +54,6 @@ rank-cons : (d : Float) (ds : List Float) (b : Bool) → eq d plusZero ≡ b →
 unfolding rank
 rank-cons d ds b t = ap (λ (x : Bool). cond x 0 (suc (rank ds))) t
 
-leading-cons : (d : Float) (ds : List Float) (b : Bool) → eq d plusZero ≡ b → leading (d ∷ ds) ≡ cond b [] (d ∷ leading ds)
-unfolding leading
-leading-cons d ds b t = ap (λ (x : Bool). cond x [] (d ∷ leading ds)) t
-
 noZero-cons : (d : Float) (ds : List Float) (b : Bool) → eq d plusZero ≡ b → noZero (d ∷ ds) ≡ (not b && noZero ds)
 unfolding noZero
 noZero-cons d ds b t = ap (λ (x : Bool). not x && noZero ds) t
@@ -73,16 +70,6 @@ module _ (ds : List Float) (k : ℕ) (h : k < length ds) (d : Float) (e : d ≡ 
       let q : rank (drop k ds) ≡ suc (rank (drop (suc k) ds)) = ap rank from-here ∙ rank-cons d (drop (suc k) ds) false t in
       rw add-one (omega arith)
 
-  pub leading-stop : eq d plusZero ≡ true → k ≡ k + length (leading (drop k ds))
-  leading-stop t =
-      let q : length (leading (drop k ds)) ≡ 0 = ap (λ (l : List Float). length (leading l)) from-here ∙ ap length (leading-cons d (drop (suc k) ds) true t) in
-      omega arith
-
-  pub leading-go : eq d plusZero ≡ false → k + 1 + length (leading (drop (k + 1) ds)) ≡ k + length (leading (drop k ds))
-  leading-go t =
-      let q : length (leading (drop k ds)) ≡ suc (length (leading (drop (suc k) ds))) = ap (λ (l : List Float). length (leading l)) from-here ∙ ap length (leading-cons d (drop (suc k) ds) false t) in
-      rw add-one (omega arith)
-
   pub noZero-stop : eq d plusZero ≡ true → false ≡ noZero (drop k ds)
   noZero-stop t = sym (ap noZero from-here ∙ noZero-cons d (drop (suc k) ds) true t)
 
@@ -92,10 +79,6 @@ module _ (ds : List Float) (k : ℕ) (h : k < length ds) (d : Float) (e : d ≡ 
 module _ (ds : List Float) (k : ℕ) (h : length ds ≤ k) where
   pub rank-end : k ≡ k + rank (drop k ds)
   rank-end = let q : rank (drop k ds) ≡ 0 = ap rank (drop-of-length-le ds {i = k} h) ∙ rank-nil in omega arith
-
-  pub leading-end : k ≡ k + length (leading (drop k ds))
-  unfolding leading
-  leading-end = let q : length (leading (drop k ds)) ≡ 0 = ap (λ (l : List Float). length (leading l)) (drop-of-length-le ds {i = k} h) in omega arith
 
   pub noZero-end : true ≡ noZero (drop k ds)
   unfolding noZero
@@ -108,10 +91,6 @@ rank-most (d ∷ ds) = go (eq d plusZero) refl (rank-most ds)
     go : (b : Bool) → eq d plusZero ≡ b → rank ds ≤ length ds → rank (d ∷ ds) ≤ suc (length ds)
     go true t l = let q : rank (d ∷ ds) ≡ 0 = rank-cons d ds true t in omega arith
     go false t l = let q : rank (d ∷ ds) ≡ suc (rank ds) = rank-cons d ds false t in omega arith
-
-pub determined-is : (m n k : ℕ) (s : List Float) → k ≡ length (leading (take (min m n) (diagonal (uppersOf n s)))) → k ≡ determinedOf m (uppersOf n s)
-unfolding determinedOf
-determined-is m n k s e = e ∙ ap (λ (l : List Float). length (leading l)) (top-fewer m n s)
 
 pub singular-few : (m n : ℕ) (us : List (List Float)) → m < n → false ≡ nonSingular m n us
 unfolding nonSingular
@@ -190,12 +169,6 @@ module _ (m n top k : ℕ) (s : List Float) (f : top ≡ min m n) (r : k ≡ ran
       ∙ ap (λ (v : ℕ). padded (length w) (solveDown (uppersOf n s) v (take v w))) u
 
 -- ---- the order list
-module _ {A B : Type 0} (f : A → B) where
-  pub map-at : (l : List A) (k : ℕ) (a : A) (b : B) → k < length l → f (getD l k a) ≡ getD (map f l) k b
-  map-at [] k a b h = absurd (not-suc-le-zero h)
-  map-at (x ∷ xs) zero a b h = refl
-  map-at (x ∷ xs) (suc k) a b h = map-at xs k a b (le-of-suc-le-suc h)
-
 pub scatter-turn : (os : List ℕ) (xs out : List Float) (k o : ℕ) → k < length os → k < length xs → o ≡ getD os k 0
     → scatter (drop (k + 1) os) (drop (k + 1) xs) (set out o (getD xs k nan)) ≡ scatter (drop k os) (drop k xs) out
 unfolding scatter

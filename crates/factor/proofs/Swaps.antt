@@ -15,14 +15,14 @@ use Rattle.leaves.specs.Number.{plusZero}
 use Rattle.leaves.specs.Norm.{norm}
 use Rattle.leaves.specs.Vector.{imaxOf}
 use Rattle.leaves.specs.Triangle.{columns}
-use Rattle.factor.specs.Loop.{countFrom}
+use Rattle.leaves.specs.Loop.{countFrom}
 use Rattle.factor.specs.Tests.{absent, distinctBelow}
-use Rattle.factor.specs.Factor.{Reduction, reduction, swap, pivoted, axisBy, later, withDiag, signed, reflected, reduced, start, reduction-of}
-use Rattle.factor.proofs.Loops.{upto-keeps, between-keeps}
-use Rattle.factor.proofs.Squares.{columns-length}
+use Rattle.reduce.specs.Reduction.{Reduction, reduction, swap, pivoted, axisBy, later, withDiag, signed, reflected, reduced, start, reduction-of}
+use Rattle.leaves.proofs.Loops.{upto-keeps, between-keeps}
+use Rattle.leaves.proofs.Squares.{columns-length}
 use Rattle.factor.proofs.Orders.{both-absent, other, three, first-alone, entry-below}
-use Rattle.factor.proofs.Lays.{count-length, count-at}
-use Rattle.factor.proofs.Fitting.{Fits, pivot-below, reduced-fits, start-fits}
+use Rattle.leaves.proofs.Overs.{count-length, count-at}
+use Rattle.reduce.proofs.Fitting.{Fits, pivot-below, reduced-fits, start-fits}
 
 -- ---- distinct, by places
 absent-entry : (v : ℕ) (xs : List ℕ) → absent v xs ≡ true → (k : ℕ) → k < length xs → v ≡ getD xs k 0 → ⊥
@@ -145,10 +145,10 @@ module _ (m n : ℕ) where
       go true = refl
       go false = reflected-order j s (pivoted j r) h
 
-  pub reduction-permutes : (jac res : List Float) → m * n ≤ length jac → distinctBelow n (reduction-of m n (columns m n jac) res .order) ≡ true
+  pub reduction-permutes : (jac res : List Float) → m * n ≤ length jac → length res ≡ m → distinctBelow n (reduction-of m n (columns m n jac) res .order) ≡ true
   unfolding reduction-of start
-  reduction-permutes jac res h =
+  reduction-permutes jac res h l =
       upto-keeps (λ (i : ℕ) (t : Reduction). Fits m n t × (distinctBelow n (t .order) ≡ true)) (reduced n) (min m n) (start (columns m n jac) res)
-      (start-fits m n jac res h, rw (columns-length m n jac) (count-distinct n))
-      (λ i t l p. (reduced-fits m n i t (omega arith) (p .0), ap (distinctBelow n) (reduced-order i t (omega arith)) ∙ pivot-permutes i t (omega arith) (p .0) (p .1)))
+      (start-fits m n jac res h l, rw (columns-length m n jac) (count-distinct n))
+      (λ i t b p. (reduced-fits m n i t (omega arith) (p .0), ap (distinctBelow n) (reduced-order i t (omega arith)) ∙ pivot-permutes i t (omega arith) (p .0) (p .1)))
       .1

@@ -1,25 +1,33 @@
 -- A factoring from its lent slices to its lent slices. Assumes nothing.
-use mathlib.Core.Path.{_≡_, sym, ap, _∙_}
+use mathlib.Core.Path.{_≡_, sym, ap, subst, _∙_}
 use mathlib.Core.Bool.{true, false}
 use mathlib.Core.List.{List, [], _++_, map, append-assoc}
 use Prim.Native.Nat.{ℕ, _+_, _*_, _≤_}
+use native.Mathlib.Nat.{mul-comm, suc-mul}
 use native.Mathlib.Omega.{arith}
-use lib.ListN.{length, getD, take, drop, length-append, length-replicate}
+use lib.ListN.{length, getD, take, drop, replicate, length-append, length-replicate}
 use lib.Seq.{length-take-le, take-at, drop-at}
 use lib.Ieee.{Float}
 use Rattle.leaves.specs.Number.{plusZero}
 use Rattle.leaves.specs.Norm.{norm}
+use Rattle.leaves.specs.Reply.{Reply}
 use Rattle.leaves.specs.Triangle.{columns}
-use Rattle.factor.specs.Loop.{countFrom}
-use Rattle.factor.specs.Room.{joined, zeros, lay}
-use Rattle.factor.specs.Tests.{allFinite}
-use Rattle.factor.specs.Factor.{Reduction, uppers, noLower, transformed, reduction-of}
-use Rattle.factor.specs.Bench.{grid, underWay}
-use Rattle.factor.specs.Calls.{factoredRoom, finiteRoom, factorWorked}
+use Rattle.leaves.specs.Loop.{countFrom}
+use Rattle.leaves.specs.Square.{joined, zeros}
+use Rattle.factor.specs.Room.{lay}
+use Rattle.leaves.specs.Tests.{outside, allFinite}
+use Rattle.reduce.specs.Reduction.{Reduction, reduction-of}
+use Rattle.factor.specs.Factoring.{uppers, noLower, transformed, factoredRoom, finiteRoom, factorWorked}
+use Rattle.reduce.specs.Bench.{grid, Benched, Reduces}
+use Rattle.reduce.specs.Reduced.{reduced, reduceCall}
 use Rattle.factor.specs.Worked.{outcome, SquareLong}
-use Rattle.factor.proofs.Squares.{columns-length}
-use Rattle.factor.proofs.Lays.{finite-append, finite-square, norms-length}
-use Rattle.factor.proofs.Begins.{transformed-long}
+use Rattle.leaves.proofs.Squares.{columns-length}
+use Rattle.leaves.proofs.Joined.{columns-front}
+use Rattle.leaves.proofs.Overs.{lent-long}
+use Rattle.reduce.proofs.Lent.{reduces}
+use Rattle.factor.proofs.Lays.{finite-append, finite-square}
+use Rattle.reduce.proofs.Begins.{norms-length}
+use Rattle.factor.proofs.Stores.{transformed-long, norms-part}
 
 -- ---- the store by its parts
 module _ (n : ℕ) (a q v rest : List Float) (la : length a ≡ n * n) (lq : length q ≡ n) (lv : length v ≡ n) where
@@ -45,12 +53,19 @@ module _ (n : ℕ) (a q v rest : List Float) (la : length a ≡ n * n) (lq : len
 pub norms-long : (m n : ℕ) (jac : List Float) → length (map norm (columns m n jac)) ≡ n
 norms-long m n jac = norms-length (columns m n jac) ∙ columns-length m n jac
 
-module _ (m n : ℕ) (jac res store : List Float) (sl : SquareLong m n (reduction-of m n (columns m n jac) (take m res))) where
+-- the columns of the numbers that are lent are the Jacobian's
+front-columns : (m n : ℕ) (jac : List Float) → columns m n (take (m * n) jac) ≡ columns m n jac
+front-columns m n jac = ap (λ (k : ℕ). columns m n (take k jac)) (mul-comm m n) ∙ columns-front m n jac
+
+module _ (m n : ℕ) (jac res store : List Float) (sl : SquareLong m n (reduction-of m n (columns m n (take (m * n) jac)) (take m res))) where
   abbrev f : Reduction
   f = reduction-of m n (columns m n jac) (take m res)
 
   abbrev laid : List Float
   laid = lay (factoredRoom m n (map norm (columns m n jac)) f (drop (n * n + 4 * n) store))
+
+  filled : SquareLong m n f
+  filled = subst (λ (cs : List (List Float)). SquareLong m n (reduction-of m n cs (take m res))) (front-columns m n jac) sl
 
   finite-laid : allFinite (take (n * n + 2 * n) laid) ≡ finiteRoom (factoredRoom m n (map norm (columns m n jac)) f (drop (n * n + 4 * n) store))
   unfolding lay factoredRoom finiteRoom
@@ -58,15 +73,24 @@ module _ (m n : ℕ) (jac res store : List Float) (sl : SquareLong m n (reductio
       let a : List Float = joined (uppers m 0 (f .cols) (f .diag)) (noLower n) in
       let q : List Float = transformed n (f .rhs) in
       let v : List Float = map norm (columns m n jac) in
-      ap allFinite (head-laid n a q v (drop (n * n + 4 * n) store) sl (transformed-long n (f .rhs)) (norms-long m n jac))
+      ap allFinite (head-laid n a q v (drop (n * n + 4 * n) store) filled (transformed-long n (f .rhs)) (norms-long m n jac))
       ∙ finite-append (a ++ q) v ∙ rw (finite-append a q, finite-square n (uppers m 0 (f .cols) (f .diag)))
 
   laid-rest : drop (n * n + 4 * n) laid ≡ drop (n * n + 4 * n) store
   unfolding lay factoredRoom
   laid-rest =
-      rest-laid n (joined (uppers m 0 (f .cols) (f .diag)) (noLower n)) (transformed n (f .rhs)) (map norm (columns m n jac)) (drop (n * n + 4 * n) store) sl (transformed-long n (f .rhs)) (norms-long m n jac)
+      rest-laid n (joined (uppers m 0 (f .cols) (f .diag)) (noLower n)) (transformed n (f .rhs)) (map norm (columns m n jac)) (drop (n * n + 4 * n) store) filled (transformed-long n (f .rhs)) (norms-long m n jac)
 
-  module _ (order o : List ℕ) (bench s b : List Float) (es : s ≡ laid) (eo : o ≡ f .order) (eb : b ≡ zeros (length (take (m * n + m) bench))) (hb : m * n + m ≤ length bench) where
+  module _
+      (order o : List ℕ) (bench s b : List Float)
+      (xs : s ≡ lay (factoredRoom m n (map norm (columns m n (take (m * n) jac))) (reduction-of m n (columns m n (take (m * n) jac)) (take m res)) (drop (n * n + 4 * n) store)))
+      (xo : o ≡ reduction-of m n (columns m n (take (m * n) jac)) (take m res) .order) (eb : b ≡ zeros (length (take (m * n + m) bench))) (hb : m * n + m ≤ length bench) where
+    es : s ≡ laid
+    es = xs ∙ ap (λ (cs : List (List Float)). lay (factoredRoom m n (map norm cs) (reduction-of m n cs (take m res)) (drop (n * n + 4 * n) store))) (front-columns m n jac)
+
+    eo : o ≡ f .order
+    eo = xo ∙ ap (λ (cs : List (List Float)). reduction-of m n cs (take m res) .order) (front-columns m n jac)
+
     bench-as : b ++ drop (m * n + m) bench ≡ zeros (m * n + m) ++ drop (length (zeros (m * n + m))) bench
     bench-as =
         let l : length (zeros (m * n + m)) ≡ m * n + m = length-replicate (m * n + m) plusZero in
@@ -88,21 +112,22 @@ module _ (m n : ℕ) (jac res store : List Float) (sl : SquareLong m n (reductio
         let d : drop (n * n + 4 * n) s ≡ drop (n * n + 4 * n) store = ap (drop (n * n + 4 * n)) es ∙ laid-rest in
         rw (g, factorWorked) (rw (es′, eo′, d, drop-at o (drop n order) n lo, bench-as, l))
 
--- ---- what the workings hand over
-pub room-laid : (m n : ℕ) (f : Reduction) (norms s d w d₁ bench store store₁ : List Float) (o : List ℕ) → underWay m n bench d w o ≡ f → d₁ ≡ d
-    → take n (drop (n * n + n) store₁) ≡ norms → drop (n * n + 4 * n) store₁ ≡ drop (n * n + 4 * n) store
-    → s ≡ joined (uppers m 0 (take n (grid m n bench)) d₁) (noLower n) ++ (transformed n (getD (grid m n bench) n []) ++ (take n (drop (n * n + n) store₁) ++ (zeros n ++ (zeros n ++ drop (n * n + 4 * n) store₁))))
-    → s ≡ lay (factoredRoom m n norms f (drop (n * n + 4 * n) store))
-unfolding lay factoredRoom
-room-laid m n f norms s d w d₁ bench store store₁ o e ed en er es =
-    let ec : take n (grid m n bench) ≡ f .cols = ap (λ (r : Reduction). r .cols) e in
-    let eb : getD (grid m n bench) n [] ≡ f .rhs = ap (λ (r : Reduction). r .rhs) e in
-    let eg : d ≡ f .diag = ap (λ (r : Reduction). r .diag) e in
-    es ∙ rw (en, er, ec, eb, ed ∙ eg)
+-- ---- what a reduction hands over
 
-pub room-long : (m n : ℕ) (f : Reduction) (d w d₁ bench : List Float) (o : List ℕ) → underWay m n bench d w o ≡ f → d₁ ≡ d
-    → length (joined (uppers m 0 (take n (grid m n bench)) d₁) (noLower n)) ≡ n * n → SquareLong m n f
-room-long m n f d w d₁ bench o e ed l =
-    let ec : take n (grid m n bench) ≡ f .cols = ap (λ (r : Reduction). r .cols) e in
-    let eg : d ≡ f .diag = ap (λ (r : Reduction). r .diag) e in
-    rw (ec, ed ∙ eg) at l
+-- the norms in the store, r_diag in a room of 16
+pub store-reduced : (m n : ℕ) (jac res store room v d b₀ b : List Float) (o₀ o : List ℕ) (w : ℕ) {r : Reply (Unit {0})} → Benched m n b₀ → outside m n ≡ false
+    → length jac ≡ m * n → length res ≡ m → n * n + 4 * n ≤ length store → length o₀ ≡ n → room ≡ replicate 16 plusZero → w ≡ n
+    → reduced r v d o b ≡ reduceCall m n jac res (take w (drop (n * n + n) store)) (take n room) o₀ b₀ → Reduces m n jac res v d o b
+store-reduced m n jac res store room v d b₀ b o₀ o w hb ho hj hr hs lo er ew e =
+    reduces m n jac res (take w (drop (n * n + n) store)) v (take n room) d o₀ o b₀ b ho hj hr (norms-part n store w ew hs) (lent-long n room er (hb .across)) lo
+    (hb .whole ∙ omega (arith, mul-comm m n, suc-mul n m)) e
+
+module _ (m n : ℕ) (jac res v d d₁ b : List Float) (o : List ℕ) (r : Reduces m n jac res v d o b) (ed : d₁ ≡ d) where
+  pub room-laid : (s store store₁ : List Float) → take n (drop (n * n + n) store₁) ≡ v → drop (n * n + 4 * n) store₁ ≡ drop (n * n + 4 * n) store
+      → s ≡ joined (uppers m 0 (take n (grid m n b)) d₁) (noLower n) ++ (transformed n (getD (grid m n b) n []) ++ (take n (drop (n * n + n) store₁) ++ (zeros n ++ (zeros n ++ drop (n * n + 4 * n) store₁))))
+      → s ≡ lay (factoredRoom m n (map norm (columns m n jac)) (reduction-of m n (columns m n jac) res) (drop (n * n + 4 * n) store))
+  unfolding lay factoredRoom
+  room-laid s store store₁ en er es = es ∙ rw (en ∙ r .norms, er, r .cols, r .rhs, ed ∙ r .diag)
+
+  pub room-long : length (joined (uppers m 0 (take n (grid m n b)) d₁) (noLower n)) ≡ n * n → SquareLong m n (reduction-of m n (columns m n jac) res)
+  room-long l = rw (r .cols, ed ∙ r .diag) at l

@@ -3,10 +3,10 @@
 use Prim.Native.Nat.{ℕ}
 use mathlib.Core.Path.{_≡_}
 use mathlib.Core.Bool.{true}
-use Rattle.factor.specs.Room.{Room, zeros}
-use Rattle.factor.specs.Tests.{allFinite}
-use Rattle.factor.specs.Factor.{noLower}
-use Rattle.factor.specs.Calls.{allFiniteIn}
+use Rattle.factor.specs.Room.{Room}
+use Rattle.leaves.specs.Square.{zeros}
+use Rattle.leaves.specs.Tests.{allFinite}
+use Rattle.factor.specs.Factoring.{noLower, allFiniteIn}
 
 pub record AsFactored (n : ℕ) (r : Room) : Type 0 where
   pub below-zero : r .below ≡ noLower n

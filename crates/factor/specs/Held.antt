@@ -1,10 +1,11 @@
 -- 01, 'Lent room': the two held calls of `CholeskyFactor`, for a held zero solve (R itself) and a held damped one (L).
-use Prim.Native.Nat.{ℕ, zero, suc}
+use Prim.Native.Nat.{zero}
 use mathlib.Core.List.{List, [], _∷_, _++_, map}
 use lib.ListN.{length, take, getD}
 use lib.Ieee.{Float, nan, binary64, add, sub, mul, div, neg}
 use Rattle.leaves.specs.Vector.{dotOf, axpyAll}
-use Rattle.factor.specs.Room.{Room, zeros}
+use Rattle.factor.specs.Room.{Room}
+use Rattle.leaves.specs.Square.{zeros}
 use Rattle.factor.specs.declared.state.Held.{Held}
 use Rattle.factor.specs.declared.state.Held.the-variants as held
 

@@ -1,23 +1,16 @@
--- What the contracts of `factor` cite: modules 2 to 6 of document 01, in its order.
-pub mod Loop
+-- What the contracts of `factor` cite: modules 2 to 5 of document 01, in its order.
 pub mod State
 pub mod Room
 pub mod Tests
-pub mod Factor
+pub mod Outcome
+pub mod Factoring
 pub mod Solve
-pub mod Eliminate
-pub mod Edges
+pub mod Solves
 pub mod Held
-pub mod Gradient
-pub mod Scaling
-pub mod Calls
-pub mod Reader
+pub mod HeldCalls
 pub mod PivotOrder
+pub mod Parts
 pub mod AsFactored
-pub mod Rescale
-pub mod History
 pub mod Answers
-pub mod Patch
-pub mod Bench
 pub mod Worked
 pub mod Opened

@@ -1,5 +1,6 @@
--- 01, module 7: the solves of a search, between its tests and its end. They are in pivot order and take no order list; tests 4, 6 and 8
--- are the search's. A room is only read, but for the damped solve's lower part and l_diag; what a search leaves of it is `emptyCall`'s.
+-- 01, module 7: the solves of a search, between its tests and its end: workings on numbers that are lent, sizes and slices, and no state.
+-- They are in pivot order and take no order list; tests 4 to 8 are the search's. A room is only read, but for the damped solve's lower part
+-- and l_diag; what a search leaves of it is `emptyIn`'s.
 use Prim.Native.Nat.{ℕ, min}
 use mathlib.Core.Bool.{Bool, true, false}
 use mathlib.Core.List.{List}
@@ -7,27 +8,18 @@ use lib.Dec.{eqb}
 use lib.ListN.{length, take}
 use lib.Ieee.{Float}
 use Rattle.leaves.specs.Reply.{Reply, answered, refused}
+use Rattle.eliminate.specs.Eliminate.{Rows, damping, heads, tails}
 use Rattle.factor.specs.Room.{Room, load, lay, emptied}
-use Rattle.factor.specs.Tests.{firstOf, roomTests}
+use Rattle.factor.specs.Tests.{tested}
 use Rattle.factor.specs.Solve.{zeroSolved, nonSingular}
-use Rattle.factor.specs.Eliminate.{Rows, damping, heads, tails}
 use Rattle.factor.specs.Held.{heldSolved, heldProduct}
-use Rattle.factor.specs.Calls.{Told, told, Ended, ended, written, dampedStep}
-use Rattle.factor.specs.Reader.{Read, read}
-use Rattle.factor.specs.declared.state.State.{State}
+use Rattle.factor.specs.Outcome.{Read, read, Left, left, written, writtenIf}
+use Rattle.factor.specs.Solves.{dampedStep}
 use Rattle.factor.specs.declared.state.Held.the-variants as held
 
--- what every one of them tests: the state, the sizes, the store and the slice that is written
-abbrev pub tested : State → List Float → ℕ → ℕ
-tested st store shortest = firstOf (roomTests st (length store) shortest)
-
--- the first n of w written where the tests are passed
-abbrev pub writtenIf : ℕ → List Float → List Float → Read
-writtenIf c xs w = elim (eqb c 0) [ true ↦ read (answered tt) (written xs w) | false ↦ read (refused c) w ]
-
 -- the zero solve
-unfoldable pub zeroIn : State → List Float → List Float → Read
-zeroIn st store w = let r = load (st .n) store in writtenIf (tested st store (length w)) (zeroSolved (st .m) (r .upper) (r .qtb)) w
+unfoldable pub zeroIn : ℕ → ℕ → List Float → List Float → Read
+zeroIn m n store w = let r = load n store in writtenIf (tested m n store (length w)) (zeroSolved m (r .upper) (r .qtb)) w
 
 -- L below the diagonal and in l_diag
 unfoldable pub lowered : Rows → Room → Room
@@ -42,32 +34,32 @@ lowered l r = record {
 }
 
 -- the damped solve, with the diagonal in pivot order too
-unfoldable pub dampedIn : State → List Float → List Float → List Float → Ended (Unit {0})
-dampedIn st ds store w =
-    let c = tested st store (min (length ds) (length w)) in
-    let r = load (st .n) store in
-    let l = damping (take (st .n) ds) (r .upper) (r .qtb) in
-    elim (eqb c 0) [ true ↦ ended (answered tt) st (lay (lowered l r)) (written (dampedStep l) w) | false ↦ ended (refused c) st store w ]
+unfoldable pub dampedIn : ℕ → List Float → List Float → List Float → Left
+dampedIn n ds store w =
+    let c = tested 1 n store (min (length ds) (length w)) in
+    let r = load n store in
+    let l = damping (take n ds) (r .upper) (r .qtb) in
+    elim (eqb c 0) [ true ↦ left (answered tt) (lay (lowered l r)) (written (dampedStep l) w) | false ↦ left (refused c) store w ]
 
 -- the held solve of a zero solve and of a damped one; w is the right side, and then the answer
-unfoldable pub heldZeroIn : State → List Float → List Float → Read
-heldZeroIn st store w = writtenIf (tested st store (length w)) (heldSolved held.Zero (take (st .n) w) (load (st .n) store)) w
+unfoldable pub heldZeroIn : ℕ → List Float → List Float → Read
+heldZeroIn n store w = writtenIf (tested 1 n store (length w)) (heldSolved held.Zero (take n w) (load n store)) w
 
-unfoldable pub heldDampedIn : State → List Float → List Float → Read
-heldDampedIn st store w = writtenIf (tested st store (length w)) (heldSolved held.Damped (take (st .n) w) (load (st .n) store)) w
+unfoldable pub heldDampedIn : ℕ → List Float → List Float → Read
+heldDampedIn n store w = writtenIf (tested 1 n store (length w)) (heldSolved held.Damped (take n w) (load n store)) w
 
 -- Rᵀ·qt_b
-unfoldable pub productIn : State → List Float → List Float → Read
-productIn st store w = writtenIf (tested st store (length w)) (heldProduct held.Zero (load (st .n) store)) w
+unfoldable pub productIn : ℕ → List Float → List Float → Read
+productIn n store w = writtenIf (tested 1 n store (length w)) (heldProduct held.Zero (load n store)) w
 
 -- whether A has rank n
-unfoldable pub fullRank : State → List Float → Reply Bool
-fullRank st store =
-    let c = tested st store (st .n) in
-    elim (eqb c 0) [ true ↦ answered (nonSingular (st .m) (st .n) (load (st .n) store .upper)) | false ↦ refused c ]
+unfoldable pub fullRank : ℕ → ℕ → List Float → Reply Bool
+fullRank m n store =
+    let c = tested m n store n in
+    elim (eqb c 0) [ true ↦ answered (nonSingular m n (load n store .upper)) | false ↦ refused c ]
 
 -- +0 below the diagonal, in l_diag and in work
-unfoldable pub emptyCall : State → List Float → Told (Unit {0})
-emptyCall st store =
-    let c = tested st store (st .n) in
-    elim (eqb c 0) [ true ↦ told (answered tt) st (lay (emptied (load (st .n) store))) | false ↦ told (refused c) st store ]
+unfoldable pub emptyIn : ℕ → List Float → Read
+emptyIn n store =
+    let c = tested 1 n store n in
+    elim (eqb c 0) [ true ↦ read (answered tt) (lay (emptied (load n store))) | false ↦ read (refused c) store ]

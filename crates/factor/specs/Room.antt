@@ -1,15 +1,15 @@
 -- 01, 'Lent room and what stays in it': the store as a room. This file alone knows the layout: an n×n square, column by column,
 -- then qt_b, column norms, l_diag and work, then the surplus. Everywhere else a room is a record: R by columns, what stands below
 -- R's diagonal, and the vectors.
-use Prim.Native.Nat.{ℕ, zero, suc, _+_, _-_, _*_, _≤_, _<_}
+use Prim.Native.Nat.{ℕ, suc, _+_, _-_, _*_, _≤_, _<_}
 use mathlib.Core.Path.{_≡_}
 use mathlib.Core.Bool.{cond}
-use mathlib.Core.List.{List, [], _∷_, _++_}
+use mathlib.Core.List.{List, [], _++_}
 use lib.Dec.{eqb}
-use lib.ListN.{length, take, drop, getD, replicate}
-use lib.Ieee.{Float, nan}
-use Rattle.leaves.specs.Number.{plusZero}
+use lib.ListN.{length, take, drop, getD}
+use lib.Ieee.{Float}
 use Rattle.leaves.specs.Triangle.{columns}
+use Rattle.leaves.specs.Square.{belowsOf, cleared, joined, uppersOf, zeros}
 
 -- column k of R is its k + 1 entries on and above the diagonal; column k of `below` the n - 1 - k entries under it
 pub record Room : Type 0 where
@@ -20,23 +20,6 @@ pub record Room : Type 0 where
   pub ldiag : List Float
   pub work : List Float
   pub rest : List Float
-
--- the first k + 1 of the first column, k + 2 of the next, ..
-unfoldable pub uppersFrom : ℕ → List (List Float) → List (List Float)
-uppersFrom k [] = []
-uppersFrom k (c ∷ cs) = take (suc k) c ∷ uppersFrom (suc k) cs
-
--- and what is left of each
-unfoldable pub belowsFrom : ℕ → List (List Float) → List (List Float)
-belowsFrom k [] = []
-belowsFrom k (c ∷ cs) = drop (suc k) c ∷ belowsFrom (suc k) cs
-
--- R, and what stands below it, of an n×n square
-abbrev pub uppersOf : ℕ → List Float → List (List Float)
-uppersOf n s = uppersFrom 0 (columns n n s)
-
-abbrev pub belowsOf : ℕ → List Float → List (List Float)
-belowsOf n s = belowsFrom 0 (columns n n s)
 
 -- part k of the four that follow the square
 unfoldable pub part : ℕ → ℕ → List Float → List Float
@@ -53,32 +36,10 @@ load n s = record {
   rest = drop (n * n + 4 * n) s;
 }
 
--- the columns one after the other, each its upper and its lower end
-unfoldable pub joined : List (List Float) → List (List Float) → List Float
-joined [] ls = []
-joined (u ∷ us) [] = u ++ joined us []
-joined (u ∷ us) (l ∷ ls) = (u ++ l) ++ joined us ls
-
 unfoldable pub lay : Room → List Float
 lay r = joined (r .upper) (r .below) ++ (r .qtb ++ (r .norms ++ (r .ldiag ++ (r .work ++ r .rest))))
 
 -- ---- what the definitions need of a room
-
-abbrev pub zeros : ℕ → List Float
-zeros k = replicate k plusZero
-
--- R's diagonal: the last of each column
-unfoldable pub diagonalFrom : ℕ → List (List Float) → List Float
-diagonalFrom k [] = []
-diagonalFrom k (c ∷ cs) = getD c k nan ∷ diagonalFrom (suc k) cs
-
-abbrev pub diagonal : List (List Float) → List Float
-diagonal upper = diagonalFrom 0 upper
-
--- each column's lower end as +0
-unfoldable pub cleared : List (List Float) → List (List Float)
-cleared [] = []
-cleared (l ∷ ls) = zeros (length l) ∷ cleared ls
 
 -- the room with other things below the diagonal and in l_diag, and work +0: what every call that passes its checks leaves
 unfoldable pub leaving : List (List Float) → List Float → Room → Room
@@ -116,11 +77,6 @@ emptied r = leaving (cleared (r .below)) (zeros (length (r .ldiag))) r
 pub record Sized (n : ℕ) (s : List Float) : Type 0 where
   pub small : n ≤ 16
   pub fits : n * n + 4 * n ≤ length s
-
--- and of the square alone
-pub record Square (n : ℕ) (s : List Float) : Type 0 where
-  pub small : n ≤ 16
-  pub whole : length s ≡ n * n
 
 -- a room that a store of enough numbers can hold: the one that is loaded from it, and what the calls make of that
 pub record Shaped (n : ℕ) (r : Room) : Type 0 where

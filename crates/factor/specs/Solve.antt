@@ -1,13 +1,14 @@
 -- 01, module 4: rank, the zero solve, and where an answer entry goes.
 use Prim.Native.Nat.{ℕ, zero, suc, _-_}
-use mathlib.Core.Bool.{Bool, true, false, cond, _&&_, not}
+use mathlib.Core.Bool.{Bool, true, cond, _&&_, not}
 use mathlib.Core.List.{List, [], _∷_, _++_, map}
 use lib.Dec.{leb}
-use lib.ListN.{length, take, drop, getD, set}
-use lib.Ieee.{Float, nan, eq}
+use lib.ListN.{length, take, getD, set}
+use lib.Ieee.{Float, nan, eq, binary64, sub, div}
 use Rattle.leaves.specs.Number.{plusZero}
 use Rattle.leaves.specs.Triangle.{solveDown}
-use Rattle.factor.specs.Room.{zeros, diagonal}
+use Rattle.leaves.specs.Square.{zeros, diagonal}
+use Rattle.leaves.specs.Vector.{dotOf}
 
 -- Rank is the place of the first exact zero.
 unfoldable pub rank : List Float → ℕ
@@ -44,11 +45,15 @@ noZero (d ∷ ds) = not (eq d plusZero) && noZero ds
 unfoldable pub nonSingular : ℕ → ℕ → List (List Float) → Bool
 nonSingular m n upper = leb n m && noZero (diagonal upper)
 
--- determined: the number of parameters at places before R's first exact zero diagonal, where place m counts as zero for m < n.
--- It stands by itself: what is asked of the report is not what is asked of the solves.
-unfoldable pub leading : List Float → List Float
-leading [] = []
-leading (d ∷ ds) = cond (eq d plusZero) [] (d ∷ leading ds)
+-- Lᵀ·x = right side, from the last place down, with L's diagonal and the columns under it
+unfoldable pub backward : List Float → List (List Float) → List Float → List Float
+backward [] ls bs = []
+backward (d ∷ ds) [] bs = []
+backward (d ∷ ds) (l ∷ ls) [] = []
+backward (d ∷ ds) (l ∷ ls) (b ∷ bs) =
+    let xs = backward ds ls bs in
+    div binary64 (sub binary64 b (dotOf (take (length xs) l) xs)) d ∷ xs
 
-unfoldable pub determinedOf : ℕ → List (List Float) → ℕ
-determinedOf m upper = length (leading (take m (diagonal upper)))
+-- the damped solve, in pivot order: rank is at most n for L, later places are 0
+unfoldable pub dampedSolved : List Float → List (List Float) → List Float → List Float
+dampedSolved ldiag below rhs = let k = rank ldiag in padded (length rhs) (backward (take k ldiag) (take k below) (take k rhs))

@@ -1,7 +1,6 @@
 -- 01, 'Lent room and what stays in it': the state that goes in and comes back by value.
 use Prim.Native.Nat.{ℕ, _+_, _*_}
-use mathlib.Core.Bool.{Bool, true, false, _||_}
-use lib.Dec.{ltb, eqb}
+use mathlib.Core.Bool.{Bool, true, false}
 use Rattle.factor.specs.declared.state.Held.{Held}
 use Rattle.factor.specs.declared.state.Held.the-variants as held
 use Rattle.factor.specs.declared.state.State.{State}
@@ -9,6 +8,10 @@ use Rattle.factor.specs.declared.state.State.{State}
 -- The empty state has m = n = 0.
 abbrev pub empty : State
 empty = record { m = 0; n = 0; held = held.Empty }
+
+-- a state by its parts
+abbrev pub stateOf : ℕ → ℕ → Held → State
+stateOf m n h = record { m = m; n = n; held = h }
 
 -- the same problem, with something else held
 abbrev pub withHeld : State → Held → State
@@ -30,10 +33,6 @@ isNothing held.Empty = false
 isNothing held.Nothing = true
 isNothing held.Zero = false
 isNothing held.Damped = false
-
--- Sizes: m rows 1 to 128, n columns 1 to 16.
-unfoldable pub outside : ℕ → ℕ → Bool
-outside m n = eqb m 0 || ltb 128 m || eqb n 0 || ltb 16 n
 
 -- The caller lends a store of n·n + 4n doubles and for factoring a bench of m·n + m.
 abbrev pub storeNeed : ℕ → ℕ

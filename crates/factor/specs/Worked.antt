@@ -7,9 +7,9 @@ use lib.ListN.{length}
 use lib.Ieee.{Float}
 use Rattle.leaves.specs.Reply.{answered, refused}
 use Rattle.factor.specs.State.{empty}
-use Rattle.factor.specs.Room.{joined}
-use Rattle.factor.specs.Factor.{Reduction, uppers, noLower}
-use Rattle.factor.specs.Calls.{Factored, factored}
+use Rattle.leaves.specs.Square.{joined}
+use Rattle.reduce.specs.Reduction.{Reduction}
+use Rattle.factor.specs.Factoring.{uppers, noLower, Factored, factored}
 use Rattle.factor.specs.declared.state.Held.the-variants as held
 
 -- true: R, qt_b and the norms are finite

@@ -1,15 +1,19 @@
-// Document 01, 'Refusal numbers, tested in this order': tests 2 to 7.
+// Document 01, 'Refusal numbers, tested in this order': the tests that calls share, here and in the crates above, on numbers and lengths:
+// what is held, the sizes, how long slices are. Each answers the number of the first test that fails, 0 for none.
 use crate::state::Held;
-use crate::state::State;
+use leaves::sizes::least;
+use leaves::sizes::outside;
+use leaves::vector::all_finite;
 ghost use mathlib.Core.Path.{_≡_};
-ghost use Prim.Native.Nat.{_≤_, min};
+ghost use Prim.Native.Nat.{_≤_};
 ghost use mathlib.Core.Bool.{false};
-ghost use lib.ListN.{length, take, replicate};
-ghost use Rattle.factor.specs.State.{isEmpty, isNothing, outside};
-ghost use Rattle.factor.specs.Tests.{firstOf, roomTests, isPermutation, allFinite, noneZero};
-ghost use Rattle.factor.specs.Calls.{solveTests, factorTests};
+ghost use lib.ListN.{length, replicate};
+ghost use Rattle.leaves.specs.Tests.{firstOf};
+ghost use Rattle.factor.specs.State.{isEmpty, isNothing, stateOf};
+ghost use Rattle.factor.specs.Tests.{sizeTests, roomTests, permutationTests, isPermutation, solveTests};
+ghost use Rattle.factor.specs.Factoring.{factorTests};
 
-pub(crate) fn is_empty(h: Held) -> bool
+fn is_empty(h: Held) -> bool
     ensures { λ r. ⌜ r ≡ isEmpty h ⌝ }
 {
     match h {
@@ -31,42 +35,6 @@ pub(crate) fn is_nothing(h: Held) -> bool
     }
 }
 
-pub(crate) fn least(a: usize, b: usize) -> usize
-    ensures { λ r. ⌜ r ≡ min a b ⌝ }
-{
-    if a < b { a } else { b }
-}
-
-// Test 6. No early exit: without one a number costs less than half.
-pub(crate) fn all_finite(v: &[f64], n: usize) -> bool
-    requires { ⌜ n ≤ length (now v) ⌝ }
-    ensures { λ r. ⌜ r ≡ allFinite (take n (now (v .entry))) ⌝ }
-{
-    let top = f64::from_bits(0x7ff0_0000_0000_0000);
-    let mut bad = false;
-    let mut i = 0;
-    while i < n {
-        let x = v[i];
-        bad = bad | !((-top < x) & (x < top));
-        i += 1;
-    }
-    !bad
-}
-
-// Test 7 of a search's scaling.
-pub(crate) fn none_zero(v: &[f64], n: usize) -> bool
-    requires { ⌜ n ≤ length (now v) ⌝ }
-    ensures { λ r. ⌜ r ≡ noneZero (take n (now (v .entry))) ⌝ }
-{
-    let mut zero = false;
-    let mut i = 0;
-    while i < n {
-        zero = zero | (v[i] == 0.0);
-        i += 1;
-    }
-    !zero
-}
-
 // Its own function, so that a proof sees one list and not sixteen cells.
 fn unmarked() -> [bool; 16]
     ensures { λ r. ⌜ r ≡ replicate 16 false ⌝ }
@@ -75,7 +43,7 @@ fn unmarked() -> [bool; 16]
 }
 
 // Test 4, by a mark for each number that was met.
-pub(crate) fn permutation(order: &[usize], n: usize) -> bool
+fn is_permutation(order: &[usize], n: usize) -> bool
     requires { ⌜ n ≤ 16 ⌝ }
     requires { ⌜ n ≤ length (now order) ⌝ }
     ensures { λ r. ⌜ r ≡ isPermutation n (now (order .entry)) ⌝ }
@@ -96,54 +64,61 @@ pub(crate) fn permutation(order: &[usize], n: usize) -> bool
     true
 }
 
-// Test 2.
-pub(crate) fn outside_sizes(m: usize, n: usize) -> bool
-    ensures { λ r. ⌜ r ≡ outside m n ⌝ }
+// Whether an order list is one.
+//
+// n: the number of columns. order: its first n are read.
+// Answers 2 for n outside 1 to 16, 3 for fewer than n places, 4 where the first n are no permutation of 0 to n − 1, else 0.
+pub fn permutation(n: usize, order: &[usize]) -> u8
+    ensures { λ r. ⌜ r ≡ firstOf (permutationTests n (now (order .entry))) ⌝ }
 {
-    if m == 0 {
-        return true;
+    if outside(1, n) {
+        return 2;
     }
-    if 128 < m {
-        return true;
+    if order.len() < n {
+        return 3;
     }
-    if n == 0 {
-        return true;
-    }
-    16 < n
+    if is_permutation(order, n) { 0 } else { 4 }
 }
 
-// What every call with a state tests first.
-pub(crate) fn check_room(st: State, store: usize, shortest: usize) -> u8
-    ensures { λ r. ⌜ r ≡ firstOf (roomTests st store shortest) ⌝ }
+// What every working on lent numbers tests: its sizes, and two lengths.
+pub(crate) fn sizes(m: usize, n: usize, store: usize, shortest: usize) -> u8
+    ensures { λ r. ⌜ r ≡ firstOf (sizeTests m n store shortest) ⌝ }
 {
-    let m = st.m;
-    let n = st.n;
-    let held = st.held;
-    if is_empty(held) {
-        return 5;
-    }
-    if outside_sizes(m, n) {
+    if outside(m, n) {
         return 2;
     }
     if store < n * n + 4 * n {
         return 3;
     }
-    if shortest < n {
-        return 3;
+    if shortest < n { 3 } else { 0 }
+}
+
+// What every call with a state tests first.
+//
+// held, m, n: the state's parts. store: how long the lent store is. shortest: the least length of the slices that hold a number for each
+// column; n where there is none.
+// Answers 5 for an empty state, before its sizes are read; then 2 for the sizes, 3 for a store or a slice that is too short; else 0.
+pub fn room(held: Held, m: usize, n: usize, store: usize, shortest: usize) -> u8
+    ensures { λ r. ⌜ r ≡ firstOf (roomTests (stateOf m n held) store shortest) ⌝ }
+{
+    if is_empty(held) {
+        return 5;
     }
-    0
+    sizes(m, n, store, shortest)
 }
 
 // The same for a call with an order list, which is one of the slices.
-pub(crate) fn check_ordered(st: State, store: usize, shortest: usize, order: &[usize]) -> u8
-    ensures { λ r. ⌜ r ≡ firstOf (solveTests st store (now (order .entry)) shortest) ⌝ }
+//
+// As `room`; order: its first n are read.
+// Answers as `room`, then 4 where the order list is no permutation; else 0.
+pub fn ordered(held: Held, m: usize, n: usize, store: usize, shortest: usize, order: &[usize]) -> u8
+    ensures { λ r. ⌜ r ≡ firstOf (solveTests (stateOf m n held) store (now (order .entry)) shortest) ⌝ }
 {
-    let n = st.n;
-    let c = check_room(st, store, least(order.len(), shortest));
+    let c = room(held, m, n, store, least(order.len(), shortest));
     if c != 0 {
         return c;
     }
-    if permutation(order, n) { 0 } else { 4 }
+    if is_permutation(order, n) { 0 } else { 4 }
 }
 
 // What factoring tests. It reads no old order list.
@@ -158,10 +133,11 @@ pub(crate) fn check_factor(
 ) -> u8
     ensures { λ r. ⌜ r ≡ firstOf (factorTests m n (now (jacobian .entry)) (now (residuals .entry)) store order bench) ⌝ }
 {
-    if outside_sizes(m, n) {
+    if outside(m, n) {
         return 2;
     }
-    if jacobian.len() < m * n {
+    let mn = m * n;
+    if jacobian.len() < mn {
         return 3;
     }
     if residuals.len() < m {
@@ -173,14 +149,11 @@ pub(crate) fn check_factor(
     if order < n {
         return 3;
     }
-    if bench < m * n + m {
+    if bench < mn + m {
         return 3;
     }
-    if !all_finite(jacobian, m * n) {
+    if !all_finite(&jacobian[..mn]) {
         return 6;
     }
-    if !all_finite(residuals, m) {
-        return 6;
-    }
-    0
+    if all_finite(&residuals[..m]) { 0 } else { 6 }
 }

@@ -1,30 +1,26 @@
 // Document 01, modules 2 and 3: a factoring from its lent slices to its lent slices, all tests passed.
-use crate::beginning::begin;
-use crate::beginning::count;
-use crate::check::all_finite;
 use crate::laying::lay_out;
 use crate::laying::take_rhs;
-use crate::pieces::clear_long;
-use crate::pivoted_qr::reduce;
-use crate::state::room16;
+use leaves::pieces::clear_long;
+use leaves::sizes::room16;
+use leaves::vector::all_finite;
+use leaves::vector::count;
+use reduce::bench::reduce_bench;
 ghost use mathlib.Core.Path.{_≡_};
 ghost use mathlib.Core.List.{[], _++_, map};
-ghost use Prim.Native.Nat.{_+_, _*_, _<_, _≤_};
+ghost use Prim.Native.Nat.{_+_, _*_, _≤_};
 ghost use lib.ListN.{length, getD, take, drop};
 ghost use Rattle.leaves.specs.Norm.{norm};
 ghost use Rattle.leaves.specs.Triangle.{columns};
-ghost use Rattle.factor.specs.Room.{joined, zeros, lay};
-ghost use Rattle.factor.specs.Factor.{uppers, noLower, transformed, reduction-of};
-ghost use Rattle.factor.specs.Loop.{countFrom};
-ghost use Rattle.factor.specs.Bench.{grid, Benched, underWay};
-ghost use Rattle.factor.specs.Calls.{factoredRoom, factorWorked};
+ghost use Rattle.leaves.specs.Square.{joined, zeros};
+ghost use Rattle.factor.specs.Room.{lay};
+ghost use Rattle.factor.specs.Factoring.{uppers, noLower, transformed, factoredRoom, factorWorked};
+ghost use Rattle.reduce.specs.Reduction.{reduction-of};
+ghost use Rattle.leaves.specs.Loop.{countFrom};
+ghost use Rattle.leaves.specs.Tests.{outside};
+ghost use mathlib.Core.Bool.{false};
+ghost use Rattle.reduce.specs.Bench.{grid, Benched};
 ghost use Rattle.factor.specs.Worked.{outcome, SquareLong};
-
-fn room128() -> [f64; 128]
-    ensures { λ r. ⌜ length r ≡ 128 ⌝ }
-{
-    [0.0; 128]
-}
 
 // The norms are in their place already.
 fn lay_store(m: usize, n: usize, bench: &[f64], diag: &[f64], store: &mut [f64])
@@ -43,78 +39,6 @@ fn lay_store(m: usize, n: usize, bench: &[f64], diag: &[f64], store: &mut [f64])
     leaves::vector::fill(0.0, &mut store[q..e]);
 }
 
-fn work_out(
-    m: usize,
-    n: usize,
-    jacobian: &[f64],
-    residuals: &[f64],
-    norms: &mut [f64],
-    diag: &mut [f64],
-    work: &mut [f64],
-    order: &mut [usize],
-    bench: &mut [f64],
-    axis: &mut [f64],
-)
-    requires { ⌜ Benched m n (now bench) ⌝ }
-    requires { ⌜ 0 < m ⌝ }
-    requires { ⌜ m * n ≤ length (now jacobian) ⌝ }
-    requires { ⌜ m ≤ length (now residuals) ⌝ }
-    requires { ⌜ length (now norms) ≡ n ⌝ }
-    requires { ⌜ length (now diag) ≡ n ⌝ }
-    requires { ⌜ length (now work) ≡ n ⌝ }
-    requires { ⌜ length (now order) ≡ n ⌝ }
-    requires { ⌜ length (now axis) ≡ 128 ⌝ }
-    ensures { λ _. ⌜ now (norms .exit) ≡ map norm (columns m n (now (jacobian .entry))) ⌝ }
-    ensures { λ _. ⌜ underWay m n (now (bench .exit)) (now (diag .exit)) (now (work .exit)) (now (order .exit)) ≡ reduction-of m n (columns m n (now (jacobian .entry))) (take m (now (residuals .entry))) ⌝ }
-{
-    begin(m, n, jacobian, residuals, norms, diag, work, order, bench);
-    reduce(m, n, bench, diag, work, order, axis);
-}
-
-fn factor_with(
-    m: usize,
-    n: usize,
-    jacobian: &[f64],
-    residuals: &[f64],
-    store: &mut [f64],
-    order: &mut [usize],
-    bench: &mut [f64],
-    diag: &mut [f64],
-    work: &mut [f64],
-    axis: &mut [f64],
-)
-    requires { ⌜ Benched m n (now bench) ⌝ }
-    requires { ⌜ 0 < m ⌝ }
-    requires { ⌜ m * n ≤ length (now jacobian) ⌝ }
-    requires { ⌜ m ≤ length (now residuals) ⌝ }
-    requires { ⌜ n * n + 4 * n ≤ length (now store) ⌝ }
-    requires { ⌜ length (now order) ≡ n ⌝ }
-    requires { ⌜ length (now diag) ≡ n ⌝ }
-    requires { ⌜ length (now work) ≡ n ⌝ }
-    requires { ⌜ length (now axis) ≡ 128 ⌝ }
-    ensures { λ _. ⌜ now (store .exit) ≡ lay (factoredRoom m n (map norm (columns m n (now (jacobian .entry)))) (reduction-of m n (columns m n (now (jacobian .entry))) (take m (now (residuals .entry)))) (drop (n * n + 4 * n) (now (store .entry)))) ⌝ }
-    ensures { λ _. ⌜ now (order .exit) ≡ (reduction-of m n (columns m n (now (jacobian .entry))) (take m (now (residuals .entry)))) .order ⌝ }
-    ensures { λ _. ⌜ now (bench .exit) ≡ zeros (length (now (bench .entry))) ⌝ }
-    ensures { λ _. ⌜ SquareLong m n (reduction-of m n (columns m n (now (jacobian .entry))) (take m (now (residuals .entry)))) ⌝ }
-{
-    let a = n * n + n;
-    let e = a + n;
-    work_out(
-        m,
-        n,
-        jacobian,
-        residuals,
-        &mut store[a..e],
-        diag,
-        work,
-        order,
-        bench,
-        axis,
-    );
-    lay_store(m, n, bench, diag, store);
-    clear_long(bench);
-}
-
 fn factor_room(
     m: usize,
     n: usize,
@@ -125,31 +49,31 @@ fn factor_room(
     bench: &mut [f64],
 )
     requires { ⌜ Benched m n (now bench) ⌝ }
-    requires { ⌜ 0 < m ⌝ }
-    requires { ⌜ m * n ≤ length (now jacobian) ⌝ }
-    requires { ⌜ m ≤ length (now residuals) ⌝ }
+    requires { ⌜ outside m n ≡ false ⌝ }
+    requires { ⌜ length (now jacobian) ≡ m * n ⌝ }
+    requires { ⌜ length (now residuals) ≡ m ⌝ }
     requires { ⌜ n * n + 4 * n ≤ length (now store) ⌝ }
     requires { ⌜ length (now order) ≡ n ⌝ }
-    ensures { λ _. ⌜ now (store .exit) ≡ lay (factoredRoom m n (map norm (columns m n (now (jacobian .entry)))) (reduction-of m n (columns m n (now (jacobian .entry))) (take m (now (residuals .entry)))) (drop (n * n + 4 * n) (now (store .entry)))) ⌝ }
-    ensures { λ _. ⌜ now (order .exit) ≡ (reduction-of m n (columns m n (now (jacobian .entry))) (take m (now (residuals .entry)))) .order ⌝ }
+    ensures { λ _. ⌜ now (store .exit) ≡ lay (factoredRoom m n (map norm (columns m n (now (jacobian .entry)))) (reduction-of m n (columns m n (now (jacobian .entry))) (now (residuals .entry))) (drop (n * n + 4 * n) (now (store .entry)))) ⌝ }
+    ensures { λ _. ⌜ now (order .exit) ≡ (reduction-of m n (columns m n (now (jacobian .entry))) (now (residuals .entry))) .order ⌝ }
     ensures { λ _. ⌜ now (bench .exit) ≡ zeros (length (now (bench .entry))) ⌝ }
-    ensures { λ _. ⌜ SquareLong m n (reduction-of m n (columns m n (now (jacobian .entry))) (take m (now (residuals .entry)))) ⌝ }
+    ensures { λ _. ⌜ SquareLong m n (reduction-of m n (columns m n (now (jacobian .entry))) (now (residuals .entry))) ⌝ }
 {
+    let a = n * n + n;
+    let e = a + n;
     let mut diag = room16();
-    let mut work = room16();
-    let mut axis = room128();
-    factor_with(
+    reduce_bench(
         m,
         n,
         jacobian,
         residuals,
-        store,
+        &mut store[a..e],
+        &mut diag[..n],
         order,
         bench,
-        &mut diag[..n],
-        &mut work[..n],
-        &mut axis[..],
     );
+    lay_store(m, n, bench, &diag[..n], store);
+    clear_long(bench);
 }
 
 fn clear(n: usize, store: &mut [f64], order: &mut [usize])
@@ -174,9 +98,7 @@ pub(crate) fn factor_working(
     order: &mut [usize],
     bench: &mut [f64],
 ) -> bool
-    requires { ⌜ 0 < m ⌝ }
-    requires { ⌜ m ≤ 128 ⌝ }
-    requires { ⌜ n ≤ 16 ⌝ }
+    requires { ⌜ outside m n ≡ false ⌝ }
     requires { ⌜ m * n ≤ length (now jacobian) ⌝ }
     requires { ⌜ m ≤ length (now residuals) ⌝ }
     requires { ⌜ n * n + 4 * n ≤ length (now store) ⌝ }
@@ -184,18 +106,19 @@ pub(crate) fn factor_working(
     requires { ⌜ m * n + m ≤ length (now bench) ⌝ }
     ensures { λ r. ⌜ outcome r m n (now (store .exit)) (now (order .exit)) (now (bench .exit)) ≡ factorWorked m n (now (jacobian .entry)) (now (residuals .entry)) (now (store .entry)) (now (order .entry)) (now (bench .entry)) ⌝ }
 {
-    let need = m * n + m;
+    let mn = m * n;
+    let need = mn + m;
     factor_room(
         m,
         n,
-        jacobian,
-        residuals,
+        &jacobian[..mn],
+        &residuals[..m],
         store,
         &mut order[..n],
         &mut bench[..need],
     );
     let k = n * n + 2 * n;
-    if all_finite(store, k) {
+    if all_finite(&store[..k]) {
         return true;
     }
     clear(n, store, order);

@@ -1,25 +1,25 @@
-// The held calls on lent slices: what stands in the store after the last solve is R for a zero solve, L for a damped one.
-use crate::check::all_finite;
+// The held calls on lent slices, the store only read: what stands in it after the last solve is R for a zero solve, L for a damped one.
+// The held calls, their read-only forms and the workings of a search all stand on these.
 use crate::held::forward_lower;
 use crate::held::forward_upper;
 use crate::held::mul_lower;
 use crate::held::mul_upper;
-use crate::room::copy_part;
-use crate::room::rest_room;
+use crate::room::part_at;
 use crate::solve::gather_into;
 use crate::state::Held;
 use crate::wrap::copy_of;
+use leaves::vector::all_finite;
 ghost use mathlib.Core.Path.{_≡_};
 ghost use mathlib.Core.Bool.{true, false};
 ghost use Prim.Native.Nat.{ℕ, _<_, _≤_};
 ghost use lib.ListN.{length, getD, take};
 ghost use Rattle.factor.specs.declared.state.Held.the-variants as held;
 ghost use Rattle.factor.specs.State.{isEmpty, isNothing};
-ghost use Rattle.factor.specs.Room.{Sized, load, lay, rested};
-ghost use Rattle.factor.specs.Tests.{allFinite};
+ghost use Rattle.factor.specs.Room.{Sized, load};
+ghost use Rattle.leaves.specs.Tests.{allFinite};
 ghost use Rattle.factor.specs.Solve.{gather};
 ghost use Rattle.factor.specs.Held.{heldSolved, heldProduct};
-ghost use Rattle.factor.specs.Calls.{written};
+ghost use Rattle.factor.specs.Outcome.{written};
 
 // ---- the answer goes out
 
@@ -38,8 +38,7 @@ pub(crate) fn write_finite(w: &[f64], out: &mut [f64]) -> bool
     ensures { λ r. ⌜ (r ≡ true → now (out .exit) ≡ written (now (w .entry)) (now (out .entry))) ⌝ }
     ensures { λ r. ⌜ (r ≡ false → now (out .exit) ≡ now (out .entry)) ⌝ }
 {
-    let n = w.len();
-    if all_finite(w, n) {
+    if all_finite(w) {
         write_first(w, out);
         return true;
     }
@@ -57,61 +56,38 @@ pub(crate) fn solve_zero(store: &[f64], n: usize, w: &mut [f64])
     forward_upper(&store[..nn], n, w);
 }
 
-fn solve_damped(store: &[f64], n: usize, d: &mut [f64], w: &mut [f64])
+pub(crate) fn solve_damped(store: &[f64], n: usize, w: &mut [f64])
     requires { ⌜ Sized n (now store) ⌝ }
-    requires { ⌜ (length (now d) ≡ n) × (length (now w) ≡ n) ⌝ }
+    requires { ⌜ length (now w) ≡ n ⌝ }
     ensures { λ _. ⌜ now (w .exit) ≡ heldSolved held.Damped (now (w .entry)) (load n (now (store .entry))) ⌝ }
 {
-    copy_part(store, n, 2, d);
     let nn = n * n;
-    forward_lower(&store[..nn], n, d, w);
+    let a = part_at(n, n, 2);
+    let e = a + n;
+    forward_lower(&store[..nn], n, &store[a..e], w);
 }
 
-pub(crate) fn solve_held(holds: Held, store: &[f64], n: usize, d: &mut [f64], w: &mut [f64])
+fn solve_held(holds: Held, store: &[f64], n: usize, w: &mut [f64])
     requires { ⌜ (isEmpty holds ≡ false) × (isNothing holds ≡ false) ⌝ }
     requires { ⌜ Sized n (now store) ⌝ }
-    requires { ⌜ (length (now d) ≡ n) × (length (now w) ≡ n) ⌝ }
+    requires { ⌜ length (now w) ≡ n ⌝ }
     ensures { λ _. ⌜ now (w .exit) ≡ heldSolved holds (now (w .entry)) (load n (now (store .entry))) ⌝ }
 {
     match holds {
         Held::Empty => {}
         Held::Nothing => {}
         Held::Zero => solve_zero(store, n, w),
-        Held::Damped => solve_damped(store, n, d, w),
+        Held::Damped => solve_damped(store, n, w),
     }
 }
 
-// The answer in w, and the room that the call leaves.
-fn solve_step(
+// The held solve, all tests passed, the store only read: written where each number is finite.
+pub(crate) fn solve_into(
     holds: Held,
     n: usize,
-    store: &mut [f64],
+    store: &[f64],
     order: &[usize],
     rhs: &[f64],
-    d: &mut [f64],
-    w: &mut [f64],
-)
-    requires { ⌜ (isEmpty holds ≡ false) × (isNothing holds ≡ false) ⌝ }
-    requires { ⌜ Sized n (now store) ⌝ }
-    requires { ⌜ n ≤ length (now order) ⌝ }
-    requires { ⌜ ((k : ℕ) → k < n → getD (now order) k 0 < n) ⌝ }
-    requires { ⌜ n ≤ length (now rhs) ⌝ }
-    requires { ⌜ (length (now d) ≡ n) × (length (now w) ≡ n) ⌝ }
-    ensures { λ _. ⌜ now (w .exit) ≡ heldSolved holds (gather (take n (now (order .entry))) (now (rhs .entry))) (load n (now (store .entry))) ⌝ }
-    ensures { λ _. ⌜ now (store .exit) ≡ lay (rested (load n (now (store .entry)))) ⌝ }
-{
-    gather_into(order, n, rhs, w);
-    solve_held(holds, store, n, d, w);
-    rest_room(store, n);
-}
-
-pub(crate) fn solve_finite(
-    holds: Held,
-    n: usize,
-    store: &mut [f64],
-    order: &[usize],
-    rhs: &[f64],
-    d: &mut [f64],
     w: &mut [f64],
     out: &mut [f64],
 ) -> bool
@@ -120,89 +96,66 @@ pub(crate) fn solve_finite(
     requires { ⌜ n ≤ length (now order) ⌝ }
     requires { ⌜ ((k : ℕ) → k < n → getD (now order) k 0 < n) ⌝ }
     requires { ⌜ (n ≤ length (now rhs)) × (n ≤ length (now out)) ⌝ }
-    requires { ⌜ (length (now d) ≡ n) × (length (now w) ≡ n) ⌝ }
+    requires { ⌜ length (now w) ≡ n ⌝ }
     ensures { λ r. ⌜ r ≡ allFinite (heldSolved holds (gather (take n (now (order .entry))) (now (rhs .entry))) (load n (now (store .entry)))) ⌝ }
-    ensures { λ _. ⌜ now (store .exit) ≡ lay (rested (load n (now (store .entry)))) ⌝ }
     ensures { λ r. ⌜ (r ≡ true → now (out .exit) ≡ written (heldSolved holds (gather (take n (now (order .entry))) (now (rhs .entry))) (load n (now (store .entry)))) (now (out .entry))) ⌝ }
     ensures { λ r. ⌜ (r ≡ false → now (out .exit) ≡ now (out .entry)) ⌝ }
 {
-    solve_step(holds, n, store, order, rhs, d, w);
+    gather_into(order, n, rhs, w);
+    solve_held(holds, store, n, w);
     write_finite(w, out)
 }
 
 // ---- the held product
 
-fn mul_zero(store: &[f64], n: usize, q: &mut [f64], w: &mut [f64])
+pub(crate) fn mul_zero(store: &[f64], n: usize, w: &mut [f64])
     requires { ⌜ Sized n (now store) ⌝ }
-    requires { ⌜ (length (now q) ≡ n) × (length (now w) ≡ n) ⌝ }
+    requires { ⌜ length (now w) ≡ n ⌝ }
     ensures { λ _. ⌜ now (w .exit) ≡ heldProduct held.Zero (load n (now (store .entry))) ⌝ }
 {
-    copy_part(store, n, 0, q);
     let nn = n * n;
-    mul_upper(&store[..nn], n, q, w);
+    let a = part_at(n, n, 0);
+    let e = a + n;
+    mul_upper(&store[..nn], n, &store[a..e], w);
 }
 
-fn mul_damped(store: &[f64], n: usize, q: &mut [f64], d: &mut [f64], w: &mut [f64])
+fn mul_damped(store: &[f64], n: usize, w: &mut [f64])
     requires { ⌜ Sized n (now store) ⌝ }
-    requires { ⌜ (length (now q) ≡ n) × (length (now d) ≡ n) × (length (now w) ≡ n) ⌝ }
+    requires { ⌜ length (now w) ≡ n ⌝ }
     ensures { λ _. ⌜ now (w .exit) ≡ heldProduct held.Damped (load n (now (store .entry))) ⌝ }
 {
-    copy_part(store, n, 0, q);
-    copy_part(store, n, 2, d);
     let nn = n * n;
-    mul_lower(&store[..nn], n, q, d, w);
+    let a = part_at(n, n, 0);
+    let e = a + n;
+    let b = part_at(n, n, 2);
+    let f = b + n;
+    mul_lower(&store[..nn], n, &store[a..e], &store[b..f], w);
 }
 
-pub(crate) fn mul_held(
-    holds: Held,
-    store: &[f64],
-    n: usize,
-    q: &mut [f64],
-    d: &mut [f64],
-    w: &mut [f64],
-)
+fn mul_held(holds: Held, store: &[f64], n: usize, w: &mut [f64])
     requires { ⌜ (isEmpty holds ≡ false) × (isNothing holds ≡ false) ⌝ }
     requires { ⌜ Sized n (now store) ⌝ }
-    requires { ⌜ (length (now q) ≡ n) × (length (now d) ≡ n) × (length (now w) ≡ n) ⌝ }
+    requires { ⌜ length (now w) ≡ n ⌝ }
     ensures { λ _. ⌜ now (w .exit) ≡ heldProduct holds (load n (now (store .entry))) ⌝ }
 {
     match holds {
         Held::Empty => {}
         Held::Nothing => {}
-        Held::Zero => mul_zero(store, n, q, w),
-        Held::Damped => mul_damped(store, n, q, d, w),
+        Held::Zero => mul_zero(store, n, w),
+        Held::Damped => mul_damped(store, n, w),
     }
 }
 
-fn mul_step(holds: Held, n: usize, store: &mut [f64], q: &mut [f64], d: &mut [f64], w: &mut [f64])
+// The held product, all tests passed, the store only read: written where each number is finite.
+pub(crate) fn mul_into(holds: Held, n: usize, store: &[f64], w: &mut [f64], out: &mut [f64]) -> bool
     requires { ⌜ (isEmpty holds ≡ false) × (isNothing holds ≡ false) ⌝ }
     requires { ⌜ Sized n (now store) ⌝ }
-    requires { ⌜ (length (now q) ≡ n) × (length (now d) ≡ n) × (length (now w) ≡ n) ⌝ }
-    ensures { λ _. ⌜ now (w .exit) ≡ heldProduct holds (load n (now (store .entry))) ⌝ }
-    ensures { λ _. ⌜ now (store .exit) ≡ lay (rested (load n (now (store .entry)))) ⌝ }
-{
-    mul_held(holds, store, n, q, d, w);
-    rest_room(store, n);
-}
-
-pub(crate) fn mul_finite(
-    holds: Held,
-    n: usize,
-    store: &mut [f64],
-    q: &mut [f64],
-    d: &mut [f64],
-    w: &mut [f64],
-    out: &mut [f64],
-) -> bool
-    requires { ⌜ (isEmpty holds ≡ false) × (isNothing holds ≡ false) ⌝ }
-    requires { ⌜ Sized n (now store) ⌝ }
-    requires { ⌜ (length (now q) ≡ n) × (length (now d) ≡ n) × (length (now w) ≡ n) ⌝ }
+    requires { ⌜ length (now w) ≡ n ⌝ }
     requires { ⌜ n ≤ length (now out) ⌝ }
     ensures { λ r. ⌜ r ≡ allFinite (heldProduct holds (load n (now (store .entry)))) ⌝ }
-    ensures { λ _. ⌜ now (store .exit) ≡ lay (rested (load n (now (store .entry)))) ⌝ }
     ensures { λ r. ⌜ (r ≡ true → now (out .exit) ≡ written (heldProduct holds (load n (now (store .entry)))) (now (out .entry))) ⌝ }
     ensures { λ r. ⌜ (r ≡ false → now (out .exit) ≡ now (out .entry)) ⌝ }
 {
-    mul_step(holds, n, store, q, d, w);
+    mul_held(holds, store, n, w);
     write_finite(w, out)
 }

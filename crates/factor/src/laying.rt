@@ -1,15 +1,25 @@
 // Document 01, modules 2 and 3: R and the transformed residuals, taken from the bench into the store's parts.
-use crate::check::least;
-use crate::reflect::row_at;
 use crate::wrap::copy_of;
+use leaves::sizes::least;
 ghost use mathlib.Core.Path.{_≡_};
 ghost use mathlib.Core.List.{[], _++_};
 ghost use Prim.Native.Nat.{suc, _+_, _-_, _*_, _<_, _≤_};
 ghost use lib.ListN.{length, getD, take};
-ghost use Rattle.factor.specs.Room.{joined, zeros};
-ghost use Rattle.factor.specs.Factor.{upperColumn, uppers, noLower, transformed};
-ghost use Rattle.factor.specs.Bench.{grid, Benched};
-ghost use Rattle.factor.specs.Patch.{patch};
+ghost use Rattle.leaves.specs.Square.{joined, zeros};
+ghost use Rattle.factor.specs.Factoring.{upperColumn, uppers, noLower, transformed};
+ghost use Rattle.reduce.specs.Bench.{grid, Benched};
+ghost use Rattle.leaves.specs.Patch.{patch};
+
+// Where column k stands, where columns are m apart.
+fn column_at(m: usize, n: usize, k: usize) -> usize
+    requires { ⌜ m ≤ 128 ⌝ }
+    requires { ⌜ n ≤ 16 ⌝ }
+    requires { ⌜ k ≤ n ⌝ }
+    ensures { λ q. ⌜ q ≡ k * m ⌝ }
+    ensures { λ q. ⌜ q + m ≤ suc n * m ⌝ }
+{
+    k * m
+}
 
 // The first of a list, then +0 to the end.
 fn lay_front(top: usize, col: &[f64], out: &mut [f64])
@@ -42,9 +52,9 @@ fn lay_column(m: usize, n: usize, k: usize, d: f64, bench: &[f64], square: &mut 
     requires { ⌜ length (now square) ≡ n * n ⌝ }
     ensures { λ _. ⌜ now (square .exit) ≡ patch (k * n) n (now (square .entry)) (upperColumn m k (getD (grid m n (now (bench .entry))) k []) d ++ zeros (n - suc k)) ⌝ }
 {
-    let a = row_at(m, n, k, 0);
+    let a = column_at(m, n, k);
     let e = a + m;
-    let from = row_at(n, n, k, 0);
+    let from = column_at(n, n, k);
     let to = from + n;
     lay_in(k, d, &bench[a..e], &mut square[from..to]);
 }
@@ -75,7 +85,7 @@ pub(crate) fn take_rhs(m: usize, n: usize, bench: &[f64], qtb: &mut [f64])
     requires { ⌜ length (now qtb) ≡ n ⌝ }
     ensures { λ _. ⌜ now (qtb .exit) ≡ transformed n (getD (grid m n (now (bench .entry))) n []) ⌝ }
 {
-    let a = row_at(m, n, n, 0);
+    let a = column_at(m, n, n);
     let e = a + m;
     lay_rhs(&bench[a..e], qtb);
 }

@@ -1,25 +1,16 @@
-// Modules 2 to 6 of document 01: factoring, solves, elimination, held calls, gradient, norm of Jx, scaling, determined.
+// Modules 2 to 5 of document 01: state, rooms and tests; factoring, the solves, the held calls; and the workings that a search asks for.
 pub mod answer;
-mod beginning;
-mod check;
+pub mod check;
 pub mod cholesky;
-pub mod eliminate;
 mod factor;
-pub mod factoring;
-pub mod gradient;
 mod held;
 mod holding;
 mod laying;
 pub mod least_squares;
-pub mod measures;
-mod pieces;
+pub mod parts;
 pub mod pivot_order;
-mod pivoted_qr;
-pub mod reader;
-mod reflect;
+pub mod pivoted_qr;
 mod room;
-pub mod scaling;
 mod solve;
 pub mod state;
-pub mod update_diag;
 mod wrap;

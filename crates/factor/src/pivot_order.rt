@@ -1,34 +1,32 @@
-// Document 01, module 7: the solves of a search, in pivot order. A search tests its order list once, and once at its end it empties
-// the store; so these take no order list, and leave work as it is. They test what they could read or write beside: state, sizes, lengths.
+// Document 01, module 7: the solves of a search, between its tests and its end. They are in pivot order, without an order list, and read the
+// store; tests 4 to 8 are the search's. They are workings on numbers that are lent: sizes and slices, and no state, so that they can leave
+// none false.
 use crate::answer::Truth;
-use crate::check::check_room;
-use crate::check::least;
-use crate::eliminate::eliminate;
-use crate::held::forward_lower;
-use crate::held::mul_upper;
+use crate::check::sizes;
+use crate::holding::mul_zero;
+use crate::holding::solve_damped;
 use crate::holding::solve_zero;
 use crate::room::copy_part;
 use crate::room::empty_room;
-use crate::room::part_at;
 use crate::room::put_part;
 use crate::solve::backward_in;
 use crate::solve::non_singular;
 use crate::solve::zero_solve;
-use crate::state::State;
-use crate::state::room16;
+use eliminate::square::eliminate_diag;
 use leaves::reply::Done;
+use leaves::sizes::least;
+use leaves::sizes::room16;
 ghost use mathlib.Core.Path.{_≡_};
+ghost use Prim.Native.Nat.{_<_};
 ghost use lib.ListN.{length};
 ghost use Rattle.leaves.specs.Reply.{doneOf};
+ghost use Rattle.eliminate.specs.Eliminate.{damping};
 ghost use Rattle.factor.specs.Answers.{truthOf};
 ghost use Rattle.factor.specs.Room.{Sized, load};
 ghost use Rattle.factor.specs.Solve.{zeroSolved};
-ghost use Rattle.factor.specs.Eliminate.{damping};
-ghost use Rattle.factor.specs.Held.{heldSolved, heldProduct};
-ghost use Rattle.factor.specs.Calls.{told, ended, dampedStep};
-ghost use Rattle.factor.specs.Reader.{read};
-ghost use Rattle.factor.specs.PivotOrder.{lowered, zeroIn, dampedIn, heldZeroIn, heldDampedIn, productIn, fullRank, emptyCall};
-ghost use Rattle.factor.specs.declared.state.Held.the-variants as held;
+ghost use Rattle.factor.specs.Solves.{dampedStep};
+ghost use Rattle.factor.specs.Outcome.{read, left};
+ghost use Rattle.factor.specs.PivotOrder.{lowered, zeroIn, dampedIn, heldZeroIn, heldDampedIn, productIn, fullRank, emptyIn};
 
 // The zero solve in pivot order.
 fn zero_numbers(m: usize, n: usize, store: &[f64], w: &mut [f64])
@@ -41,12 +39,14 @@ fn zero_numbers(m: usize, n: usize, store: &[f64], w: &mut [f64])
     zero_solve(&store[..nn], m, n, w);
 }
 
-pub fn zero(st: State, store: &[f64], w: &mut [f64]) -> Done
-    ensures { λ r. ⌜ read (doneOf r) (now (w .exit)) ≡ zeroIn st (now (store .entry)) (now (w .entry)) ⌝ }
+// The least squares step, in pivot order.
+//
+// m, n: the sizes. store: R and qt_b are read. w: on exit its first n are the step.
+// Refused 2 for the sizes, 3 for a store or a w that is too short; w is then as it was.
+pub fn zero(m: usize, n: usize, store: &[f64], w: &mut [f64]) -> Done
+    ensures { λ r. ⌜ read (doneOf r) (now (w .exit)) ≡ zeroIn m n (now (store .entry)) (now (w .entry)) ⌝ }
 {
-    let m = st.m;
-    let n = st.n;
-    let c = check_room(st, store.len(), w.len());
+    let c = sizes(m, n, store.len(), w.len());
     if c != 0 {
         return Done::Refused(c);
     }
@@ -56,7 +56,7 @@ pub fn zero(st: State, store: &[f64], w: &mut [f64]) -> Done
 
 // The damped solve in pivot order, with the diagonal in pivot order too. L is left below the diagonal and in l_diag.
 fn damped_numbers(n: usize, store: &mut [f64], ds: &[f64], ldiag: &mut [f64], w: &mut [f64])
-    requires { ⌜ Sized n (now store) ⌝ }
+    requires { ⌜ (0 < n) × Sized n (now store) ⌝ }
     requires { ⌜ length (now ds) ≡ n ⌝ }
     requires { ⌜ length (now ldiag) ≡ n ⌝ }
     requires { ⌜ length (now w) ≡ n ⌝ }
@@ -65,16 +65,20 @@ fn damped_numbers(n: usize, store: &mut [f64], ds: &[f64], ldiag: &mut [f64], w:
 {
     copy_part(store, n, 0, w);
     let nn = n * n;
-    eliminate(&mut store[..nn], n, ds, w, ldiag);
+    eliminate_diag(n, &mut store[..nn], ds, w, ldiag);
     backward_in(&store[..nn], n, ldiag, w);
     put_part(store, n, 2, ldiag);
 }
 
-pub fn damped(st: State, store: &mut [f64], ds: &[f64], w: &mut [f64]) -> Done
-    ensures { λ r. ⌜ ended (doneOf r) st (now (store .exit)) (now (w .exit)) ≡ dampedIn st (now (ds .entry)) (now (store .entry)) (now (w .entry)) ⌝ }
+// The least squares step damped by a diagonal, both in pivot order.
+//
+// n: the number of columns. store: R and qt_b are read; on exit L stands below the diagonal and in l_diag. ds: its first n are read. w: on
+// exit its first n are the step.
+// Refused 2 for n outside 1 to 16, 3 for a slice that is too short; every slice is then as it was.
+pub fn damped(n: usize, store: &mut [f64], ds: &[f64], w: &mut [f64]) -> Done
+    ensures { λ r. ⌜ left (doneOf r) (now (store .exit)) (now (w .exit)) ≡ dampedIn n (now (ds .entry)) (now (store .entry)) (now (w .entry)) ⌝ }
 {
-    let n = st.n;
-    let c = check_room(st, store.len(), least(ds.len(), w.len()));
+    let c = sizes(1, n, store.len(), least(ds.len(), w.len()));
     if c != 0 {
         return Done::Refused(c);
     }
@@ -83,11 +87,14 @@ pub fn damped(st: State, store: &mut [f64], ds: &[f64], w: &mut [f64]) -> Done
     Done::Written
 }
 
-pub fn held_zero(st: State, store: &[f64], w: &mut [f64]) -> Done
-    ensures { λ r. ⌜ read (doneOf r) (now (w .exit)) ≡ heldZeroIn st (now (store .entry)) (now (w .entry)) ⌝ }
+// The held solve of a zero solve, in pivot order.
+//
+// n: the number of columns. store: R is read. w: on entry the right side, on exit the answer, in its first n.
+// Refused 2 for n outside 1 to 16, 3 for a store or a w that is too short; w is then as it was.
+pub fn held_zero(n: usize, store: &[f64], w: &mut [f64]) -> Done
+    ensures { λ r. ⌜ read (doneOf r) (now (w .exit)) ≡ heldZeroIn n (now (store .entry)) (now (w .entry)) ⌝ }
 {
-    let n = st.n;
-    let c = check_room(st, store.len(), w.len());
+    let c = sizes(1, n, store.len(), w.len());
     if c != 0 {
         return Done::Refused(c);
     }
@@ -95,59 +102,41 @@ pub fn held_zero(st: State, store: &[f64], w: &mut [f64]) -> Done
     Done::Written
 }
 
-fn forward_damped(store: &[f64], n: usize, w: &mut [f64])
-    requires { ⌜ Sized n (now store) ⌝ }
-    requires { ⌜ length (now w) ≡ n ⌝ }
-    ensures { λ _. ⌜ now (w .exit) ≡ heldSolved held.Damped (now (w .entry)) (load n (now (store .entry))) ⌝ }
+// The held solve of a damped solve, in pivot order. As `held_zero`; L and l_diag are read.
+pub fn held_damped(n: usize, store: &[f64], w: &mut [f64]) -> Done
+    ensures { λ r. ⌜ read (doneOf r) (now (w .exit)) ≡ heldDampedIn n (now (store .entry)) (now (w .entry)) ⌝ }
 {
-    let nn = n * n;
-    let a = part_at(n, n, 2);
-    let e = a + n;
-    forward_lower(&store[..nn], n, &store[a..e], w);
-}
-
-pub fn held_damped(st: State, store: &[f64], w: &mut [f64]) -> Done
-    ensures { λ r. ⌜ read (doneOf r) (now (w .exit)) ≡ heldDampedIn st (now (store .entry)) (now (w .entry)) ⌝ }
-{
-    let n = st.n;
-    let c = check_room(st, store.len(), w.len());
+    let c = sizes(1, n, store.len(), w.len());
     if c != 0 {
         return Done::Refused(c);
     }
-    forward_damped(store, n, &mut w[..n]);
+    solve_damped(store, n, &mut w[..n]);
     Done::Written
 }
 
-fn multiply(store: &[f64], n: usize, w: &mut [f64])
-    requires { ⌜ Sized n (now store) ⌝ }
-    requires { ⌜ length (now w) ≡ n ⌝ }
-    ensures { λ _. ⌜ now (w .exit) ≡ heldProduct held.Zero (load n (now (store .entry))) ⌝ }
+// Rᵀ·qt_b, in pivot order.
+//
+// n: the number of columns. store: R and qt_b are read. w: on exit its first n are the product.
+// Refused 2 for n outside 1 to 16, 3 for a store or a w that is too short; w is then as it was.
+pub fn product(n: usize, store: &[f64], w: &mut [f64]) -> Done
+    ensures { λ r. ⌜ read (doneOf r) (now (w .exit)) ≡ productIn n (now (store .entry)) (now (w .entry)) ⌝ }
 {
-    let nn = n * n;
-    let a = part_at(n, n, 0);
-    let e = a + n;
-    mul_upper(&store[..nn], n, &store[a..e], w);
-}
-
-pub fn product(st: State, store: &[f64], w: &mut [f64]) -> Done
-    ensures { λ r. ⌜ read (doneOf r) (now (w .exit)) ≡ productIn st (now (store .entry)) (now (w .entry)) ⌝ }
-{
-    let n = st.n;
-    let c = check_room(st, store.len(), w.len());
+    let c = sizes(1, n, store.len(), w.len());
     if c != 0 {
         return Done::Refused(c);
     }
-    multiply(store, n, &mut w[..n]);
+    mul_zero(store, n, &mut w[..n]);
     Done::Written
 }
 
-// No slice but the store holds a number for each column, so the shortest is none too short.
-pub fn full_rank(st: State, store: &[f64]) -> Truth
-    ensures { λ r. ⌜ truthOf r ≡ fullRank st (now (store .entry)) ⌝ }
+// Whether A has rank n: no diagonal entry of R is zero, and m is at least n.
+//
+// m, n: the sizes. store: R's diagonal is read. No other slice holds a number for each column, so the shortest is none too short.
+// Refused 2 for the sizes, 3 for a store that is too short.
+pub fn full_rank(m: usize, n: usize, store: &[f64]) -> Truth
+    ensures { λ r. ⌜ truthOf r ≡ fullRank m n (now (store .entry)) ⌝ }
 {
-    let m = st.m;
-    let n = st.n;
-    let c = check_room(st, store.len(), n);
+    let c = sizes(m, n, store.len(), n);
     if c != 0 {
         return Truth::Refused(c);
     }
@@ -155,11 +144,14 @@ pub fn full_rank(st: State, store: &[f64]) -> Truth
     Truth::Is(non_singular(&store[..nn], m, n))
 }
 
-pub fn empty(st: State, store: &mut [f64]) -> Done
-    ensures { λ r. ⌜ told (doneOf r) st (now (store .exit)) ≡ emptyCall st (now (store .entry)) ⌝ }
+// What a search leaves of a store.
+//
+// n: the number of columns. store: on exit strict lower part, l_diag and work are +0, and nothing else is changed.
+// Refused 2 for n outside 1 to 16, 3 for a store that is too short; the store is then as it was.
+pub fn empty(n: usize, store: &mut [f64]) -> Done
+    ensures { λ r. ⌜ read (doneOf r) (now (store .exit)) ≡ emptyIn n (now (store .entry)) ⌝ }
 {
-    let n = st.n;
-    let c = check_room(st, store.len(), n);
+    let c = sizes(1, n, store.len(), n);
     if c != 0 {
         return Done::Refused(c);
     }

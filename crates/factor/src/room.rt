@@ -2,7 +2,8 @@
 ghost use mathlib.Core.Path.{_≡_};
 ghost use Prim.Native.Nat.{suc, _+_, _-_, _*_, _<_, _≤_};
 ghost use lib.ListN.{length, set};
-ghost use Rattle.factor.specs.Room.{Sized, Square, uppersOf, belowsOf, part, load, lay, zeros, cleared, leaving, withPart, rested, emptied};
+ghost use Rattle.factor.specs.Room.{Sized, part, load, lay, leaving, withPart, rested, emptied};
+ghost use Rattle.leaves.specs.Square.{Square, uppersOf, belowsOf, zeros, cleared};
 
 // Where part k of the four behind the square starts, where columns stand `apart` places apart.
 pub(crate) fn part_at(apart: usize, n: usize, k: usize) -> usize

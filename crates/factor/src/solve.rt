@@ -1,26 +1,17 @@
-// Document 01, module 4: rank, the zero solve, the damped solve after elimination, determined, and where an answer entry goes.
+// Document 01, module 4: rank, the zero solve, the damped solve after elimination, and where an answer entry goes.
 // The square is R's n columns, n apart; a vector is in pivot order unless said otherwise.
 use crate::wrap::dot_of;
+use leaves::sizes::least;
 use leaves::triangle::solve_upper;
 use leaves::vector::fill;
 ghost use mathlib.Core.Path.{_≡_};
 ghost use mathlib.Core.List.{[], _++_};
-ghost use Prim.Native.Nat.{ℕ, suc, _+_, _-_, _*_, _<_, _≤_, min};
+ghost use Prim.Native.Nat.{ℕ, suc, _+_, _-_, _*_, _<_, _≤_};
 ghost use lib.ListN.{length, take, drop, getD, set};
 ghost use lib.Ieee.{nan, binary64, sub, div};
 ghost use Rattle.leaves.specs.Vector.{dotOf};
-ghost use Rattle.factor.specs.Room.{Square, uppersOf, belowsOf, diagonal, zeros};
-ghost use Rattle.factor.specs.Solve.{rank, scatter, gather, zeroSolved, nonSingular, determinedOf};
-ghost use Rattle.factor.specs.Eliminate.{backward, dampedSolved};
-
-fn fewer(m: usize, n: usize) -> usize
-    ensures { λ r. ⌜ r ≡ min m n ⌝ }
-{
-    if m < n {
-        return m;
-    }
-    n
-}
+ghost use Rattle.leaves.specs.Square.{Square, uppersOf, belowsOf, diagonal, zeros};
+ghost use Rattle.factor.specs.Solve.{rank, scatter, gather, zeroSolved, nonSingular, backward, dampedSolved};
 
 fn diagonal_at(square: &[f64], n: usize, k: usize) -> f64
     requires { ⌜ Square n (now square) ⌝ }
@@ -79,21 +70,17 @@ pub(crate) fn non_singular(square: &[f64], m: usize, n: usize) -> bool
     true
 }
 
-// Place m counts as zero where m < n.
-pub(crate) fn determined_of(square: &[f64], m: usize, n: usize) -> usize
+// R's diagonal, place by place.
+pub(crate) fn copy_diagonal(square: &[f64], n: usize, w: &mut [f64])
     requires { ⌜ Square n (now square) ⌝ }
-    ensures { λ r. ⌜ r ≡ determinedOf m (uppersOf n (now (square .entry))) ⌝ }
+    requires { ⌜ length (now w) ≡ n ⌝ }
+    ensures { λ _. ⌜ now (w .exit) ≡ diagonal (uppersOf n (now (square .entry))) ⌝ }
 {
-    let top = fewer(m, n);
     let mut k = 0;
-    while k < top {
-        let d = diagonal_at(square, n, k);
-        if d == 0.0 {
-            return k;
-        }
+    while k < n {
+        w[k] = diagonal_at(square, n, k);
         k += 1;
     }
-    k
 }
 
 // The places from k on become +0.
@@ -110,7 +97,7 @@ pub(crate) fn zero_solve(square: &[f64], m: usize, n: usize, w: &mut [f64])
     requires { ⌜ length (now w) ≡ n ⌝ }
     ensures { λ _. ⌜ now (w .exit) ≡ zeroSolved m (uppersOf n (now (square .entry))) (now (w .entry)) ⌝ }
 {
-    let top = fewer(m, n);
+    let top = least(m, n);
     let full = rank_of(square, n, top);
     clear_from(full, w);
     solve_upper(square, n, full, &mut w[..full]);

@@ -1,8 +1,6 @@
 // Document 01, 'Lent room and what stays in it': the state, and what calls answer.
 use leaves::reply::Done;
 ghost use mathlib.Core.Path.{_≡_};
-ghost use lib.ListN.{replicate};
-ghost use Rattle.leaves.specs.Number.{plusZero};
 ghost use Rattle.factor.specs.State.{withHeld};
 
 // What a store holds below its diagonal and in l_diag.
@@ -34,11 +32,4 @@ pub(crate) fn with_held(st: State, held: Held) -> State
         n: st.n,
         held: held,
     }
-}
-
-// Room for a number of each column.
-pub(crate) fn room16() -> [f64; 16]
-    ensures { λ r. ⌜ r ≡ replicate 16 plusZero ⌝ }
-{
-    [0.0; 16]
 }

@@ -1,18 +1,8 @@
 // Leaves as the workings call them: on slices of fitting lengths there is no refusal, so a plain number or nothing comes back.
-use leaves::reply::Place;
 use leaves::reply::Value;
 ghost use mathlib.Core.Path.{_≡_};
-ghost use Prim.Native.Nat.{_<_, _≤_};
 ghost use lib.ListN.{length};
-ghost use Rattle.leaves.specs.Norm.{norm};
-ghost use Rattle.leaves.specs.Vector.{dotOf, axpyAll, imaxOf};
-
-pub(crate) fn norm_of(v: &[f64]) -> f64
-    requires { ⌜ length (now v) ≤ 128 ⌝ }
-    ensures { λ r. ⌜ r ≡ norm (now (v .entry)) ⌝ }
-{
-    leaves::norm::norm(v)
-}
+ghost use Rattle.leaves.specs.Vector.{dotOf, axpyAll};
 
 pub(crate) fn dot_of(a: &[f64], b: &[f64]) -> f64
     requires { ⌜ length (now a) ≡ length (now b) ⌝ }
@@ -36,15 +26,4 @@ pub(crate) fn copy_of(x: &[f64], y: &mut [f64])
     ensures { λ _. ⌜ now (y .exit) ≡ now (x .entry) ⌝ }
 {
     leaves::vector::copy(x, y);
-}
-
-pub(crate) fn imax_of(v: &[f64]) -> usize
-    requires { ⌜ 0 < length (now v) ⌝ }
-    ensures { λ r. ⌜ r ≡ imaxOf (now (v .entry)) ⌝ }
-    ensures { λ r. ⌜ r < length (now (v .entry)) ⌝ }
-{
-    match leaves::vector::imax(v) {
-        Place::At(i) => i,
-        Place::Refused(_) => 0,
-    }
 }

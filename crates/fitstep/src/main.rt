@@ -6,9 +6,9 @@
 // Proved: it is safe and ends; what it is handed and what it prints are one equation with a definition (`fit_lines`). Assumed: the
 // contracts of the C functions `read` and `write`.
 use leaves::reply::Place;
+use lines::part::within;
 ghost use mathlib.Core.Path.{_≡_};
 ghost use lib.ListN.{length};
-ghost use Rattle.text.specs.Part.{Part};
 
 fn sheet_room() -> [u8; 17556]
     ensures { λ r. ⌜ 17556 ≡ length r ⌝ }
@@ -20,12 +20,6 @@ fn text_room() -> [u8; 1024]
     ensures { λ r. ⌜ 1024 ≡ length r ⌝ }
 {
     [0; 1024]
-}
-
-fn within(s: &[u8], n: usize) -> usize
-    ensures { λ r. ⌜ Part r (now (s .entry)) ⌝ }
-{
-    if n < s.len() { n } else { s.len() }
 }
 
 fn show(text: &[u8], n: usize) {

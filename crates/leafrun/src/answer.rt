@@ -1,69 +1,67 @@
-// An answer as text, from the start of a buffer. Each function answers the place after what it wrote.
+// An answer as text.
+use leaves::norm::Normed;
 use leaves::reply::Done;
 use leaves::reply::Place;
 use leaves::reply::Value;
-use text::double::bits_of;
-use text::put;
+use lines::put;
 
-pub fn ok(out: &mut [u8]) -> usize {
-    put::bytes(b"ok", out, 0)
+// What a leaf answered. What `Written` wrote stands beside it.
+pub(crate) enum Reply {
+    Number(f64),
+    Numbers(f64, f64),
+    Bit(bool),
+    Place(usize),
+    Written,
+    Refused(u8),
 }
 
-pub fn refused(k: u8, out: &mut [u8]) -> usize {
-    let n = put::bytes(b"refused ", out, 0);
-    put::hex(k as u64, out, n)
-}
-
-pub fn double(x: f64, out: &mut [u8], at: usize) -> usize {
-    let n = put::bytes(b" ", out, at);
-    put::word(bits_of(x), out, n)
-}
-
-pub fn bit(b: bool, out: &mut [u8], at: usize) -> usize {
-    if b {
-        return put::bytes(b" 1", out, at);
-    }
-    put::bytes(b" 0", out, at)
-}
-
-pub fn doubles(v: &[f64], out: &mut [u8], at: usize) -> usize {
-    let mut k = at;
-    let mut i: usize = 0;
-    while i < v.len() {
-        k = double(v[i], out, k);
-        i += 1;
-    }
-    k
-}
-
-pub fn value(r: Value, out: &mut [u8]) -> usize {
+pub(crate) fn of_value(r: Value) -> Reply {
     match r {
-        Value::Is(x) => {
-            let n = ok(out);
-            double(x, out, n)
-        }
-        Value::Refused(k) => refused(k, out),
+        Value::Is(x) => Reply::Number(x),
+        Value::Refused(k) => Reply::Refused(k),
     }
 }
 
-pub fn place(r: Place, out: &mut [u8]) -> usize {
+pub(crate) fn of_norm(r: Normed) -> Reply {
+    if r.refusal == 0 {
+        return Reply::Number(r.value);
+    }
+    Reply::Refused(r.refusal)
+}
+
+pub(crate) fn of_place(r: Place) -> Reply {
     match r {
-        Place::At(i) => {
-            let n = ok(out);
-            let m = put::bytes(b" ", out, n);
-            put::hex(i as u64, out, m)
-        }
-        Place::Refused(k) => refused(k, out),
+        Place::At(i) => Reply::Place(i),
+        Place::Refused(k) => Reply::Refused(k),
     }
 }
 
-// What was written, where it was.
-pub fn done(r: Done, v: &[f64], out: &mut [u8]) -> usize {
+pub(crate) fn of_done(r: Done) -> Reply {
     match r {
-        Done::Written => {
-            let n = ok(out);
-            doubles(v, out, n)
-        }
-        Done::Refused(k) => refused(k, out),
+        Done::Written => Reply::Written,
+        Done::Refused(k) => Reply::Refused(k),
     }
+}
+
+fn told(r: Reply, v: &[f64], out: &mut [u8], at: usize) -> usize {
+    match r {
+        Reply::Number(x) => put::double(x, out, at),
+        Reply::Numbers(x, y) => {
+            let n = put::double(x, out, at);
+            put::double(y, out, n)
+        }
+        Reply::Bit(b) => put::number(b as usize, out, at),
+        Reply::Place(i) => put::number(i, out, at),
+        Reply::Written => put::row(v, out, at),
+        Reply::Refused(_) => at,
+    }
+}
+
+// The place after what was put.
+pub(crate) fn put(r: Reply, v: &[f64], out: &mut [u8]) -> usize {
+    if let Reply::Refused(k) = r {
+        return put::refused(k, out, 0);
+    }
+    let n = text::put::bytes(b"ok", out, 0);
+    told(r, v, out, n)
 }

@@ -1,95 +1,67 @@
-// The leaf that a line names, run on its words, with its answer as text. The leaves on one or two numbers are here.
-use crate::answer;
-use crate::scan::byte;
-use crate::scan::word;
+// The leaf that a line names, run on its words. The leaves on one or two numbers are here.
+use crate::answer::Reply;
 use crate::vectors;
+use crate::vectors::Answer;
+use crate::vectors::answered;
+use crate::vectors::unread;
 use leaves::number;
+use lines::scan::byte;
+use lines::scan::word;
 use text::double::bits_of;
 use text::double::of_bits;
 
-// The place after the words that were read, and how many bytes the answer has.
-pub struct Answer {
-    pub next: usize,
-    pub len: usize,
-    pub good: bool,
-}
-
-pub fn unread() -> Answer {
-    Answer {
-        next: 0,
-        len: 0,
-        good: false,
-    }
-}
-
 // Both square roots; the second shows only where it is another.
-fn roots(x: f64, out: &mut [u8], at: usize) -> usize {
+fn roots(x: f64) -> Reply {
     let a = leaves::root::sqrt(x);
     let b = leaves::root::sqrt_quarter(x);
-    let n = answer::double(a, out, at);
     if bits_of(a) == bits_of(b) {
-        return n;
+        return Reply::Number(a);
     }
-    answer::double(b, out, n)
+    Reply::Numbers(a, b)
 }
 
-fn of_one(op: u8, x: f64, out: &mut [u8]) -> usize {
-    let n = answer::ok(out);
+fn of_one(op: u8, x: f64) -> Reply {
     if op == b'a' {
-        return answer::double(number::abs(x), out, n);
+        return Reply::Number(number::abs(x));
     }
     if op == b'g' {
-        return answer::bit(number::is_negative(x), out, n);
+        return Reply::Bit(number::is_negative(x));
     }
     if op == b'f' {
-        return answer::bit(number::is_finite(x), out, n);
+        return Reply::Bit(number::is_finite(x));
     }
     if op == b'q' {
-        return answer::double(number::square(x), out, n);
+        return Reply::Number(number::square(x));
     }
-    roots(x, out, n)
+    roots(x)
 }
 
-fn one(op: u8, s: &[u8], out: &mut [u8]) -> Answer {
+fn one(op: u8, s: &[u8]) -> Answer {
     let x = word(s, 2);
     if !x.good {
         return unread();
     }
-    let len = of_one(op, of_bits(x.value), out);
-    Answer {
-        next: x.next,
-        len: len,
-        good: true,
-    }
+    answered(x.next, of_one(op, of_bits(x.value)))
 }
 
-fn of_two(op: u8, a: f64, b: f64, out: &mut [u8]) -> usize {
-    let n = answer::ok(out);
+fn of_two(op: u8, a: f64, b: f64) -> Reply {
     if op == b'x' {
-        return answer::double(number::max(a, b), out, n);
+        return Reply::Number(number::max(a, b));
     }
-    answer::double(number::min(a, b), out, n)
+    Reply::Number(number::min(a, b))
 }
 
-fn two(op: u8, s: &[u8], out: &mut [u8]) -> Answer {
+fn two(op: u8, s: &[u8]) -> Answer {
     let a = word(s, 2);
-    if !a.good {
-        return unread();
-    }
     let b = word(s, a.next);
     if !b.good {
         return unread();
     }
-    let len = of_two(op, of_bits(a.value), of_bits(b.value), out);
-    Answer {
-        next: b.next,
-        len: len,
-        good: true,
-    }
+    answered(b.next, of_two(op, of_bits(a.value), of_bits(b.value)))
 }
 
 // Its number in the counts, 13 for none.
-pub fn kind(op: u8) -> usize {
+pub(crate) fn kind(op: u8) -> usize {
     match op {
         b'a' => 0,
         b'g' => 1,
@@ -108,18 +80,18 @@ pub fn kind(op: u8) -> usize {
     }
 }
 
-pub fn run(s: &[u8], out: &mut [u8]) -> Answer {
+pub(crate) fn run(s: &[u8]) -> Answer {
     let op = byte(s, 0);
     if byte(s, 1) != b' ' {
         return unread();
     }
     match kind(op) {
-        0 | 1 | 2 | 5 | 6 => one(op, s, out),
-        3 | 4 => two(op, s, out),
-        7 => vectors::dot(s, out),
-        8 | 9 => vectors::axpy(op, s, out),
-        10 | 11 => vectors::single(op, s, out),
-        12 => vectors::solve(s, out),
+        0 | 1 | 2 | 5 | 6 => one(op, s),
+        3 | 4 => two(op, s),
+        7 => vectors::dot(s),
+        8 | 9 => vectors::axpy(op, s),
+        10 | 11 => vectors::single(op, s),
+        12 => vectors::solve(s),
         _ => unread(),
     }
 }

@@ -9,13 +9,11 @@
 mod answer;
 mod feed;
 mod leaf;
-mod scan;
 mod tally;
 mod vectors;
 
 fn main() {
     let mut store = feed::store();
-    let mut counts = tally::counts();
-    feed::all(&mut store, &mut counts);
-    tally::report(&counts);
+    let counts = feed::all(&mut store);
+    tally::report(counts);
 }

@@ -1,20 +1,23 @@
 // How many lines of each kind were compared and how many differ, and what is printed.
-use crate::scan::within;
+use lines::feed::Fed;
+use lines::part::within;
 use text::put;
 
 // For the 13 leaves and, last, for lines that name none: how many were compared, then how many differ. Place 28 counts the lines named.
-pub fn counts() -> [u64; 32] {
+pub(crate) fn none() -> [u64; 32] {
     [0; 32]
 }
 
-fn count(counts: &[u64], i: usize) -> u64 {
-    if i < counts.len() { counts[i] } else { 0 }
+fn count(counts: [u64; 32], i: usize) -> u64 {
+    if i < 32 { counts[i] } else { 0 }
 }
 
-fn bump(counts: &mut [u64], i: usize) {
-    if i < counts.len() {
-        counts[i] = std::num::wrapping_add_u64(counts[i], 1);
+fn bump(counts: [u64; 32], i: usize) -> [u64; 32] {
+    let mut c = counts;
+    if i < 32 {
+        c[i] = std::num::wrapping_add_u64(c[i], 1);
     }
+    c
 }
 
 fn print(text: &[u8], n: usize) {
@@ -26,86 +29,89 @@ fn space() -> [u8; 128] {
     [0; 128]
 }
 
-fn say(line: u64, good: bool, out: &mut [u8]) {
+fn say(line: u64, good: bool, out: &mut [u8]) -> usize {
     let a = put::bytes(b"line ", out, 0);
     let b = put::decimal(line, out, a);
     if good {
-        let c = put::bytes(b" differs\n", out, b);
-        print(out, c);
-        return;
+        return put::bytes(b" differs\n", out, b);
     }
-    let d = put::bytes(b" does not parse\n", out, b);
-    print(out, d);
+    put::bytes(b" does not parse\n", out, b)
 }
 
 // The first 20 lines that differ are named.
-fn name(line: u64, good: bool, counts: &mut [u64]) {
+fn name(line: u64, good: bool, counts: [u64; 32]) -> [u64; 32] {
     if count(counts, 28) >= 20 {
-        return;
+        return counts;
     }
-    bump(counts, 28);
     let mut room = space();
-    say(line, good, &mut room);
+    let n = say(line, good, &mut room);
+    print(&room, n);
+    bump(counts, 28)
 }
 
-pub fn compared(kind: usize, line: u64, good: bool, same: bool, counts: &mut [u64]) {
-    bump(counts, kind);
+pub(crate) fn compared(
+    kind: usize,
+    line: u64,
+    good: bool,
+    same: bool,
+    counts: [u64; 32],
+) -> [u64; 32] {
+    let all = bump(counts, kind);
     if same {
-        return;
+        return all;
     }
-    bump(counts, std::num::wrapping_add_usize(kind, 14));
-    name(line, good, counts);
+    name(
+        line,
+        good,
+        bump(all, std::num::wrapping_add_usize(kind, 14)),
+    )
 }
 
-fn title(k: usize, out: &mut [u8]) -> usize {
-    match k {
-        0 => put::bytes(b"abs: ", out, 0),
-        1 => put::bytes(b"is_negative: ", out, 0),
-        2 => put::bytes(b"is_finite: ", out, 0),
-        3 => put::bytes(b"max: ", out, 0),
-        4 => put::bytes(b"min: ", out, 0),
-        5 => put::bytes(b"square: ", out, 0),
-        6 => put::bytes(b"sqrt: ", out, 0),
-        7 => put::bytes(b"dot: ", out, 0),
-        8 => put::bytes(b"axpy: ", out, 0),
-        9 => put::bytes(b"axpy_zero: ", out, 0),
-        10 => put::bytes(b"imax: ", out, 0),
-        11 => put::bytes(b"enorm: ", out, 0),
-        12 => put::bytes(b"solve_upper: ", out, 0),
-        _ => put::bytes(b"no leaf: ", out, 0),
-    }
+// The title at a place of all titles, which stand in the order of the counts, and the place of the title after it.
+fn title(at: usize, out: &mut [u8]) -> Fed {
+    lines::feed::line(
+        b"abs: \nis_negative: \nis_finite: \nmax: \nmin: \nsquare: \nsqrt: \ndot: \naxpy: \naxpy_zero: \nimax: \nenorm: \nsolve_upper: \nno leaf: \n",
+        at,
+        out,
+        0,
+    )
 }
 
-fn finish(compared: u64, differ: u64, out: &mut [u8], at: usize) {
+fn finish(compared: u64, differ: u64, out: &mut [u8], at: usize) -> usize {
     let a = put::decimal(compared, out, at);
     let b = put::bytes(b" compared, ", out, a);
     let c = put::decimal(differ, out, b);
-    let d = put::bytes(b" differ\n", out, c);
-    print(out, d);
+    put::bytes(b" differ\n", out, c)
 }
 
-fn row(k: usize, compared: u64, differ: u64) {
+// The row of a kind, where lines of it came. Answers the place of the next kind's title.
+fn row(at: usize, compared: u64, differ: u64) -> usize {
     let mut room = space();
-    let at = title(k, &mut room);
-    finish(compared, differ, &mut room, at);
+    let t = title(at, &mut room);
+    if compared == 0 {
+        return t.next;
+    }
+    let n = finish(compared, differ, &mut room, t.fill);
+    print(&room, n);
+    t.next
 }
 
 fn total(compared: u64, differ: u64) {
     let mut room = space();
-    finish(compared, differ, &mut room, 0);
+    let n = finish(compared, differ, &mut room, 0);
+    print(&room, n);
 }
 
 // A row for each kind that came, and the sums.
-pub fn report(counts: &[u64]) {
+pub(crate) fn report(counts: [u64; 32]) {
     let mut compared: u64 = 0;
     let mut differ: u64 = 0;
+    let mut at: usize = 0;
     let mut k: usize = 0;
     while k < 14 {
         let c = count(counts, k);
         let d = count(counts, k + 14);
-        if c > 0 {
-            row(k, c, d);
-        }
+        at = row(at, c, d);
         compared = std::num::wrapping_add_u64(compared, c);
         differ = std::num::wrapping_add_u64(differ, d);
         k += 1;

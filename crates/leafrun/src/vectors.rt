@@ -1,162 +1,157 @@
 // The leaves on vectors.
-use crate::answer;
-use crate::leaf::Answer;
-use crate::leaf::unread;
-use crate::scan::vector;
-use crate::scan::word;
+use crate::answer::Reply;
+use crate::answer::of_done;
+use crate::answer::of_norm;
+use crate::answer::of_place;
+use crate::answer::of_value;
+use lines::scan::word;
 use text::double::of_bits;
+ghost use Rattle.text.specs.Part.{Part};
 
-// The longest vector that the oracle makes has 1000 numbers; a longer one than the room does not parse.
-fn room() -> [f64; 1024] {
-    [0.0; 1024]
+// The place after the words that were read; what the leaf answered; in the first len cells what it wrote.
+pub(crate) struct Answer {
+    pub(crate) next: usize,
+    pub(crate) good: bool,
+    pub(crate) reply: Reply,
+    pub(crate) cells: [f64; 4096],
+    pub(crate) len: usize,
 }
 
-fn square_room() -> [f64; 4096] {
+// Numbers that a line lends. The longest vector that the oracle makes has 1000 numbers; one that is longer than the cells does not parse.
+struct Lent {
+    cells: [f64; 4096],
+    len: usize,
+    next: usize,
+    good: bool,
+}
+
+fn room() -> [f64; 4096] {
     [0.0; 4096]
 }
 
-fn dot_in(s: &[u8], a: &mut [f64], b: &mut [f64], out: &mut [u8]) -> Answer {
-    let f = vector(s, 2, a);
-    if !f.good {
-        return unread();
-    }
-    let g = vector(s, f.next, b);
-    if !g.good {
-        return unread();
-    }
-    let n = f.len;
-    let m = g.len;
-    let len = answer::value(leaves::vector::dot(&a[..n], &b[..m]), out);
+pub(crate) fn answered(next: usize, reply: Reply) -> Answer {
+    let cells = room();
     Answer {
-        next: g.next,
-        len: len,
+        next: next,
         good: true,
+        reply: reply,
+        cells: cells,
+        len: 0,
     }
 }
 
-pub fn dot(s: &[u8], out: &mut [u8]) -> Answer {
-    let mut a = room();
-    let mut b = room();
-    dot_in(s, &mut a, &mut b, out)
+pub(crate) fn unread() -> Answer {
+    let cells = room();
+    let none = Reply::Written;
+    Answer {
+        next: 0,
+        good: false,
+        reply: none,
+        cells: cells,
+        len: 0,
+    }
+}
+
+fn vector(s: &[u8], at: usize) -> Lent
+    ensures { λ r. ⌜ Part (r .len) (r .cells) ⌝ }
+{
+    let mut cells = room();
+    let f = lines::scan::vector(s, at, &mut cells);
+    Lent {
+        cells: cells,
+        len: f.len,
+        next: f.next,
+        good: f.good,
+    }
+}
+
+pub(crate) fn dot(s: &[u8]) -> Answer {
+    let x = vector(s, 2);
+    let y = vector(s, x.next);
+    let good = x.good & y.good;
+    if !good {
+        return unread();
+    }
+    let a = x.cells;
+    let n = x.len;
+    let b = y.cells;
+    let m = y.len;
+    answered(y.next, of_value(leaves::vector::dot(&a[..n], &b[..m])))
 }
 
 // With last factor 0 for `z`.
-fn axpy_on(op: u8, c: f64, x: &[f64], y: &mut [f64], out: &mut [u8]) -> usize {
+fn add(op: u8, c: f64, x: &[f64], y: &mut [f64]) -> Reply {
     if op == b'z' {
-        let r = leaves::vector::axpy_zero(c, x, y);
-        return answer::done(r, y, out);
+        return of_done(leaves::vector::axpy_zero(c, x, y));
     }
-    let r = leaves::vector::axpy(c, x, y);
-    answer::done(r, y, out)
+    of_done(leaves::vector::axpy(c, x, y))
 }
 
-fn axpy_in(op: u8, s: &[u8], x: &mut [f64], y: &mut [f64], out: &mut [u8]) -> Answer {
+pub(crate) fn axpy(op: u8, s: &[u8]) -> Answer {
     let c = word(s, 2);
-    if !c.good {
+    let x = vector(s, c.next);
+    let y = vector(s, x.next);
+    let good = c.good & x.good & y.good;
+    if !good {
         return unread();
     }
-    let f = vector(s, c.next, x);
-    if !f.good {
-        return unread();
-    }
-    let g = vector(s, f.next, y);
-    if !g.good {
-        return unread();
-    }
-    let n = f.len;
-    let m = g.len;
-    let len = axpy_on(op, of_bits(c.value), &x[..n], &mut y[..m], out);
+    let a = x.cells;
+    let n = x.len;
+    let mut b = y.cells;
+    let m = y.len;
+    let reply = add(op, of_bits(c.value), &a[..n], &mut b[..m]);
     Answer {
-        next: g.next,
-        len: len,
+        next: y.next,
         good: true,
+        reply: reply,
+        cells: b,
+        len: m,
     }
 }
 
-pub fn axpy(op: u8, s: &[u8], out: &mut [u8]) -> Answer {
-    let mut x = room();
-    let mut y = room();
-    axpy_in(op, s, &mut x, &mut y, out)
-}
-
-fn single_on(op: u8, v: &[f64], out: &mut [u8]) -> usize {
+fn of_single(op: u8, v: &[f64]) -> Reply {
     if op == b'm' {
-        return answer::place(leaves::vector::imax(v), out);
+        return of_place(leaves::vector::imax(v));
     }
-    answer::value(leaves::norm::enorm(v), out)
-}
-
-fn single_in(op: u8, s: &[u8], v: &mut [f64], out: &mut [u8]) -> Answer {
-    let f = vector(s, 2, v);
-    if !f.good {
-        return unread();
-    }
-    let n = f.len;
-    let len = single_on(op, &v[..n], out);
-    Answer {
-        next: f.next,
-        len: len,
-        good: true,
-    }
+    of_norm(leaves::norm::enorm(v))
 }
 
 // imax and enorm.
-pub fn single(op: u8, s: &[u8], out: &mut [u8]) -> Answer {
-    let mut v = room();
-    single_in(op, s, &mut v, out)
-}
-
-fn solve_on(r: &[f64], apart: usize, n: usize, x: &mut [f64], out: &mut [u8]) -> usize {
-    let d = leaves::triangle::solve_upper(r, apart, n, x);
-    answer::done(d, x, out)
-}
-
-// `at` is the place after the two numbers.
-fn solve_in(
-    s: &[u8],
-    at: usize,
-    apart: usize,
-    n: usize,
-    r: &mut [f64],
-    x: &mut [f64],
-    out: &mut [u8],
-) -> Answer {
-    let f = vector(s, at, r);
-    if !f.good {
+pub(crate) fn single(op: u8, s: &[u8]) -> Answer {
+    let x = vector(s, 2);
+    if !x.good {
         return unread();
     }
-    let g = vector(s, f.next, x);
-    if !g.good {
-        return unread();
-    }
-    let k = f.len;
-    let m = g.len;
-    let len = solve_on(&r[..k], apart, n, &mut x[..m], out);
-    Answer {
-        next: g.next,
-        len: len,
-        good: true,
-    }
+    let a = x.cells;
+    let n = x.len;
+    answered(x.next, of_single(op, &a[..n]))
 }
 
-pub fn solve(s: &[u8], out: &mut [u8]) -> Answer {
+pub(crate) fn solve(s: &[u8]) -> Answer {
     let apart = word(s, 2);
-    if !apart.good {
+    let size = word(s, apart.next);
+    let r = vector(s, size.next);
+    let x = vector(s, r.next);
+    let good = size.good & r.good & x.good;
+    if !good {
         return unread();
     }
-    let n = word(s, apart.next);
-    if !n.good {
-        return unread();
-    }
-    let mut r = square_room();
-    let mut x = room();
-    solve_in(
-        s,
-        n.next,
+    let a = r.cells;
+    let n = r.len;
+    let mut b = x.cells;
+    let m = x.len;
+    let d = leaves::triangle::solve_upper(
+        &a[..n],
         apart.value as usize,
-        n.value as usize,
-        &mut r,
-        &mut x,
-        out,
-    )
+        size.value as usize,
+        &mut b[..m],
+    );
+    let reply = of_done(d);
+    Answer {
+        next: x.next,
+        good: true,
+        reply: reply,
+        cells: b,
+        len: m,
+    }
 }

@@ -2,11 +2,11 @@
 use mathlib.Core.Path.{_≡_, refl, sym, ap, _∙_}
 use mathlib.Core.Bool.{Bool, true, false, cond}
 use mathlib.Core.List.{List, [], _∷_, _++_}
-use Prim.Native.Nat.{ℕ, zero, suc, _+_, _-_, _*_, _<_, _≤_}
+use Prim.Native.Nat.{ℕ, zero, suc, _+_, _-_, _<_, _≤_}
 use native.Mathlib.Numerals.{add-one}
 use native.Mathlib.Omega.{arith}
 use native.Mathlib.Nat.{not-suc-le-zero, le-of-suc-le-suc}
-use lib.ListN.{length, getD, take, drop, set, replicate, drop-of-length-le}
+use lib.ListN.{length, getD, take, drop, set, drop-of-length-le}
 use lib.Seq.{drop-cons, take-all}
 use lib.Ieee.{Float, nan, binary64, add, mul, lt}
 use Rattle.leaves.specs.Reply.{Reply, answered, refused}
@@ -104,6 +104,10 @@ copy-refused xs ys h = rw (ne-eqb (length xs) (length ys) h, copy)
 pub copy-is : (xs ys y : List Float) → length xs ≡ length ys → y ≡ xs → (answered tt, y) ≡ copy xs ys
 unfolding copy
 copy-is xs ys y h q = rw (q, eq-eqb (length xs) (length ys) h, copy)
+
+-- what a copy of fitting length leaves
+pub copy-leaves : (xs ys l : List Float) {d : Reply (Unit {0})} → length xs ≡ length ys → (d, l) ≡ copy xs ys → l ≡ xs
+copy-leaves xs ys l h e = ap (λ (p : Reply (Unit {0}) × List Float). p .1) (e ∙ sym (copy-is xs ys xs h refl))
 
 -- ---- imax, by the test
 imax-cons : (b : ℕ) (v : Float) (i : ℕ) (x : Float) (xs : List Float) (c : Bool) → lt v x ≡ c

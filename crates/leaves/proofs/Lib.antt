@@ -1,11 +1,19 @@
 -- Laws that belong to no one function.
 pub mod Signs
-pub mod Sides
-pub mod Near
 pub mod Folds
+pub mod Products
 pub mod Norms
 pub mod Normed
 pub mod Triangles
+pub mod Squares
+pub mod Joined
+pub mod Loops
+pub mod Splices
+pub mod Fronts
+pub mod Overs
+pub mod Grids
 pub mod Replies
+pub mod Refusals
+pub mod Insides
 pub mod Unique
 pub mod Examples

@@ -10,7 +10,7 @@ use native.Mathlib.Omega.{arith}
 use lib.Dec.{eqb, ltb}
 use lib.IntN.{ℤ, pos}
 use lib.ListN.{length, getD}
-use lib.Ieee.{Float, nan, inf, fin, binary64, up, down, add, mul, div, lt, le, eq, ne, odd, units, round}
+use lib.Ieee.{Float, nan, inf, fin, binary64, up, down, add, mul, div, lt, le, eq, ne, units, round}
 use lib.Ieee.Compare.{nan-differs}
 use lib.Ieee.Fits.{down-pos, round-is}
 use lib.Ieee.Scale.{round-same}
@@ -19,6 +19,7 @@ use Rattle.leaves.specs.Norm.{rdwarf, agiant, sums, middle, small, large
 use Rattle.leaves.specs.Root.{rootS}
 use Rattle.leaves.specs.Product.{productAll}
 use Rattle.leaves.specs.declared.norm.Sums.{Sums}
+use Rattle.leaves.proofs.Products.{product-length}
 use Rattle.leaves.proofs.Norms.{nan-step}
 use Rattle.leaves.proofs.root.Signs.{Side, no-number, endless, minus-zero, plain, odd-side, root-side, side-not-negative}
 
@@ -162,12 +163,6 @@ unfolding isFinite mul
 times-nonfinite nan y h = refl
 times-nonfinite (inf s) y h = infinity-times s y
 times-nonfinite (fin s m e) y h = absurd (true≢false h)
-
-product-length : (xs ys : List Float) → length xs ≡ length ys → length (productAll xs ys) ≡ length xs
-unfolding productAll
-product-length [] ys h = refl
-product-length (x ∷ xs) [] h = sym h
-product-length (x ∷ xs) (y ∷ ys) h = ap suc (product-length xs ys (omega arith))
 
 product-nonfinite : (xs ys : List Float) (i : ℕ) → isFinite (getD xs i nan) ≡ false → isFinite (getD (productAll xs ys) i nan) ≡ false
 unfolding productAll isFinite

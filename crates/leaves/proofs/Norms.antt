@@ -1,7 +1,7 @@
 -- One turn of the norm's loop, and its ends, as laws. Assumes nothing.
-use mathlib.Core.Path.{_≡_, refl, sym, ap, subst, _∙_}
-use mathlib.Core.Bool.{true, false}
-use mathlib.Core.List.{List, [], _∷_}
+use mathlib.Core.Path.{_≡_, refl, sym, subst, _∙_}
+use mathlib.Core.Bool.{true}
+use mathlib.Core.List.{List}
 use Prim.Native.Nat.{ℕ, _+_, _<_, _≤_}
 use native.Mathlib.Numerals.{add-one}
 use lib.Dec.{T}
@@ -10,8 +10,8 @@ use lib.Seq.{drop-cons}
 use lib.Ieee.{Float, nan, ne, lt, le, eq, round}
 use lib.Ieee.Compare.{differs-from-itself}
 use Rattle.leaves.specs.Reply.{answered, refused}
-use Rattle.leaves.specs.Number.{plusZero, absOf}
-use Rattle.leaves.specs.Norm.{rdwarf, agiant, large, add-in, step, accumulate, none, finish, norm, enorm, normOr}
+use Rattle.leaves.specs.Number.{absOf}
+use Rattle.leaves.specs.Norm.{rdwarf, agiant, large, add-in, step, accumulate, none, finish, norm, enorm, carried}
 use Rattle.leaves.specs.declared.norm.Sums.{Sums}
 use borrow.Author.Tests.{le-leb, lt-leb}
 
@@ -31,13 +31,10 @@ pub enorm-is : (v : List Float) → length v ≤ 128 → answered (norm v) ≡ e
 unfolding enorm
 enorm-is v h = rw (le-leb (length v) 128 h, enorm)
 
-pub norm-or : (xs : List Float) → length xs ≤ 128 → normOr xs ≡ norm xs
-unfolding normOr
-norm-or xs h = rw (le-leb (length xs) 128 h)
-
-pub norm-or-longer : (xs : List Float) → 128 < length xs → normOr xs ≡ plusZero
-unfolding normOr
-norm-or-longer xs h = rw (lt-leb (length xs) 128 h)
+-- what a norm of at most 128 numbers carries
+pub norm-carried : (v : List Float) → length v ≤ 128 → carried (enorm v) .value ≡ norm v
+unfolding enorm
+norm-carried v h = rw (le-leb (length v) 128 h)
 
 pub norm-is : (v : List Float) (g : Float) (t : Sums) → g ≡ agiant (length v) → t ≡ accumulate g none v → finish t ≡ norm v
 unfolding norm

@@ -2,7 +2,6 @@
 use mathlib.Core.Path.{_≡_, refl, ap}
 use Prim.Native.Nat.{ℕ}
 use native.Mathlib.Omega.{arith}
-use lib.Ieee.{Float}
 use Rattle.leaves.specs.Reply.{Reply, answered, refused, valueOf, placeOf, doneOf}
 use Rattle.leaves.specs.declared.reply.Value.{Value}
 use Rattle.leaves.specs.declared.reply.Value.the-variants as value

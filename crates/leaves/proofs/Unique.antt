@@ -1,11 +1,11 @@
 -- No second outcome fits a leaf's contract: `Post` is what the source's `ensures` says. Assumes nothing.
-use Prim.Native.Nat.{ℕ}
 use mathlib.Core.Path.{_≡_, sym, ap, _∙_}
 use mathlib.Core.Bool.{Bool}
 use mathlib.Core.List.{List}
+use Prim.Native.Nat.{ℕ}
 use lib.Ieee.{Float}
 use contract.Lifetimes.{Lfts}
-use denote.Ref.{RefT, now}
+use denote.Ref.{now}
 use borrow.Fn.World.{ArgsD}
 use borrow.Fn.Kinds.{endedOf}
 use denote.Triple.Clauses.{AtExit}
@@ -13,6 +13,7 @@ use Rattle.leaves.specs.Reply.{Reply}
 use Rattle.leaves.specs.declared.reply.Value.{Value}
 use Rattle.leaves.specs.declared.reply.Place.{Place}
 use Rattle.leaves.specs.declared.reply.Done.{Done}
+use Rattle.leaves.specs.declared.norm.Normed.{Normed}
 use Rattle.leaves.proofs.Replies.{valueOf-same, placeOf-same, doneOf-same}
 use Rattle.leaves.proofs.number.epsmch.{signature as epsmch-signature}
 use Rattle.leaves.proofs.number.epsmch.Reads as epsmch
@@ -53,9 +54,6 @@ use Rattle.leaves.proofs.vector.imax.Kinds as imax-kinds
 use Rattle.leaves.proofs.norm.enorm.{signature as enorm-signature}
 use Rattle.leaves.proofs.norm.enorm.Reads as enorm
 use Rattle.leaves.proofs.norm.enorm.Kinds as enorm-kinds
-use Rattle.leaves.proofs.norm.norm.{signature as norm-signature}
-use Rattle.leaves.proofs.norm.norm.Reads as norm
-use Rattle.leaves.proofs.norm.norm.Kinds as norm-kinds
 use Rattle.leaves.proofs.vector.axpy.{signature as axpy-signature}
 use Rattle.leaves.proofs.vector.axpy.Reads as axpy
 use Rattle.leaves.proofs.vector.axpy.Kinds as axpy-kinds
@@ -71,6 +69,30 @@ use Rattle.leaves.proofs.triangle.solve_upper.Kinds as solve-upper-kind
 use Rattle.leaves.proofs.vector.fill.{signature as fill-signature}
 use Rattle.leaves.proofs.vector.fill.Reads as fill
 use Rattle.leaves.proofs.vector.fill.Kinds as fill-kinds
+use Rattle.leaves.proofs.sizes.outside.{signature as outside-signature}
+use Rattle.leaves.proofs.sizes.outside.Reads as outside
+use Rattle.leaves.proofs.sizes.outside.Kinds as outside-kinds
+use Rattle.leaves.proofs.sizes.least.{signature as least-signature}
+use Rattle.leaves.proofs.sizes.least.Reads as least
+use Rattle.leaves.proofs.sizes.least.Kinds as least-kinds
+use Rattle.leaves.proofs.sizes.room16.{signature as room16-signature}
+use Rattle.leaves.proofs.sizes.room16.Reads as room16
+use Rattle.leaves.proofs.sizes.room16.Kinds as room16-kinds
+use Rattle.leaves.proofs.vector.all_finite.{signature as all-finite-signature}
+use Rattle.leaves.proofs.vector.all_finite.Reads as all-finite
+use Rattle.leaves.proofs.vector.all_finite.Kinds as all-finite-kinds
+use Rattle.leaves.proofs.vector.none_zero.{signature as none-zero-signature}
+use Rattle.leaves.proofs.vector.none_zero.Reads as none-zero
+use Rattle.leaves.proofs.vector.none_zero.Kinds as none-zero-kinds
+use Rattle.leaves.proofs.vector.count.{signature as count-signature}
+use Rattle.leaves.proofs.vector.count.Reads as count
+use Rattle.leaves.proofs.vector.count.Kinds as count-kinds
+use Rattle.leaves.proofs.pieces.clear_long.{signature as clear-long-signature}
+use Rattle.leaves.proofs.pieces.clear_long.Reads as clear-long
+use Rattle.leaves.proofs.pieces.clear_long.Kinds as clear-long-kinds
+use Rattle.leaves.proofs.pieces.copy_long.{signature as copy-long-signature}
+use Rattle.leaves.proofs.pieces.copy_long.Reads as copy-long
+use Rattle.leaves.proofs.pieces.copy_long.Kinds as copy-long-kinds
 
 pub epsmch-one-outcome : (κs : Lfts 0) (a : ArgsD epsmch-signature κs) (r₁ r₂ : Float) (s₁ s₂ : AtExit (endedOf 0 epsmch-kinds.ps epsmch-kinds.r) κs)
     → epsmch.Post κs a r₁ s₁ → epsmch.Post κs a r₂ s₂ → r₁ ≡ r₂
@@ -120,13 +142,29 @@ pub imax-one-outcome : (κs : Lfts 1) (a : ArgsD imax-signature κs) (r₁ r₂ 
     → imax.Post κs a r₁ s₁ → imax.Post κs a r₂ s₂ → r₁ ≡ r₂
 imax-one-outcome κs a r₁ r₂ s₁ s₂ p q = placeOf-same r₁ r₂ (p ∙ sym q)
 
-pub enorm-one-outcome : (κs : Lfts 1) (a : ArgsD enorm-signature κs) (r₁ r₂ : Value) (s₁ s₂ : AtExit (endedOf 1 enorm-kinds.ps enorm-kinds.r) κs)
+pub enorm-one-outcome : (κs : Lfts 1) (a : ArgsD enorm-signature κs) (r₁ r₂ : Normed) (s₁ s₂ : AtExit (endedOf 1 enorm-kinds.ps enorm-kinds.r) κs)
     → enorm.Post κs a r₁ s₁ → enorm.Post κs a r₂ s₂ → r₁ ≡ r₂
-enorm-one-outcome κs a r₁ r₂ s₁ s₂ p q = valueOf-same r₁ r₂ (p ∙ sym q)
+enorm-one-outcome κs a r₁ r₂ s₁ s₂ p q = p ∙ sym q
 
-pub norm-one-outcome : (κs : Lfts 1) (a : ArgsD norm-signature κs) (r₁ r₂ : Float) (s₁ s₂ : AtExit (endedOf 1 norm-kinds.ps norm-kinds.r) κs)
-    → norm.Post κs a r₁ s₁ → norm.Post κs a r₂ s₂ → r₁ ≡ r₂
-norm-one-outcome κs a r₁ r₂ s₁ s₂ p q = p ∙ sym q
+pub outside-one-outcome : (κs : Lfts 0) (a : ArgsD outside-signature κs) (r₁ r₂ : Bool) (s₁ s₂ : AtExit (endedOf 0 outside-kinds.ps outside-kinds.r) κs)
+    → outside.Post κs a r₁ s₁ → outside.Post κs a r₂ s₂ → r₁ ≡ r₂
+outside-one-outcome κs a r₁ r₂ s₁ s₂ p q = p ∙ sym q
+
+pub least-one-outcome : (κs : Lfts 0) (a : ArgsD least-signature κs) (r₁ r₂ : ℕ) (s₁ s₂ : AtExit (endedOf 0 least-kinds.ps least-kinds.r) κs)
+    → least.Post κs a r₁ s₁ → least.Post κs a r₂ s₂ → r₁ ≡ r₂
+least-one-outcome κs a r₁ r₂ s₁ s₂ p q = p ∙ sym q
+
+pub room16-one-outcome : (κs : Lfts 0) (a : ArgsD room16-signature κs) (r₁ r₂ : List Float) (s₁ s₂ : AtExit (endedOf 0 room16-kinds.ps room16-kinds.r) κs)
+    → room16.Post κs a r₁ s₁ → room16.Post κs a r₂ s₂ → r₁ ≡ r₂
+room16-one-outcome κs a r₁ r₂ s₁ s₂ p q = p ∙ sym q
+
+pub all-finite-one-outcome : (κs : Lfts 1) (a : ArgsD all-finite-signature κs) (r₁ r₂ : Bool) (s₁ s₂ : AtExit (endedOf 1 all-finite-kinds.ps all-finite-kinds.r) κs)
+    → all-finite.Post κs a r₁ s₁ → all-finite.Post κs a r₂ s₂ → r₁ ≡ r₂
+all-finite-one-outcome κs a r₁ r₂ s₁ s₂ p q = p ∙ sym q
+
+pub none-zero-one-outcome : (κs : Lfts 1) (a : ArgsD none-zero-signature κs) (r₁ r₂ : Bool) (s₁ s₂ : AtExit (endedOf 1 none-zero-kinds.ps none-zero-kinds.r) κs)
+    → none-zero.Post κs a r₁ s₁ → none-zero.Post κs a r₂ s₂ → r₁ ≡ r₂
+none-zero-one-outcome κs a r₁ r₂ s₁ s₂ p q = p ∙ sym q
 
 -- ---- with a lent output
 abbrev Left : Type 0
@@ -159,3 +197,17 @@ solve-upper-one-outcome κs a r₁ r₂ s₁ s₂ p q =
 pub fill-one-outcome : (κs : Lfts 1) (a : ArgsD fill-signature κs) (r₁ r₂ : Unit {0}) (s₁ s₂ : AtExit (endedOf 1 fill-kinds.ps fill-kinds.r) κs)
     → fill.Post κs a r₁ s₁ → fill.Post κs a r₂ s₂ → now (s₁ .1 .0) ≡ now (s₂ .1 .0)
 fill-one-outcome κs a r₁ r₂ s₁ s₂ p q = p ∙ sym q
+
+pub count-one-outcome : (κs : Lfts 1) (a : ArgsD count-signature κs) (r₁ r₂ : Unit {0}) (s₁ s₂ : AtExit (endedOf 1 count-kinds.ps count-kinds.r) κs)
+    → count.Post κs a r₁ s₁ → count.Post κs a r₂ s₂ → now (s₁ .0) ≡ now (s₂ .0)
+count-one-outcome κs a r₁ r₂ s₁ s₂ p q = p ∙ sym q
+
+pub clear-long-one-outcome : (κs : Lfts 1) (a : ArgsD clear-long-signature κs) (r₁ r₂ : Unit {0}) (s₁ s₂ : AtExit (endedOf 1 clear-long-kinds.ps clear-long-kinds.r) κs)
+    → clear-long.Post κs a r₁ s₁ → clear-long.Post κs a r₂ s₂ → now (s₁ .0) ≡ now (s₂ .0)
+clear-long-one-outcome κs a r₁ r₂ s₁ s₂ p q = p ∙ sym q
+
+pub copy-long-one-outcome : (κs : Lfts 2) (a : ArgsD copy-long-signature κs) (r₁ r₂ : Done) (s₁ s₂ : AtExit (endedOf 2 copy-long-kinds.ps copy-long-kinds.r) κs)
+    → copy-long.Post κs a r₁ s₁ → copy-long.Post κs a r₂ s₂ → (r₁ ≡ r₂) × (now (s₁ .1 .0) ≡ now (s₂ .1 .0))
+copy-long-one-outcome κs a r₁ r₂ s₁ s₂ p q =
+    let e = p ∙ sym q in
+    (doneOf-same r₁ r₂ (ap (λ (x : Left). x .0) e), ap (λ (x : Left). x .1) e)

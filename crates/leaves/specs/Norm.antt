@@ -1,6 +1,6 @@
 -- 01, 'Leaf rules', enorm (MINPACK-1 guide, ANL-80-74): the norm is `finish` of `accumulate`.
 use Prim.Native.Nat.{ℕ, _*_, _^_}
-use mathlib.Core.Bool.{Bool, true, false, cond, _&&_}
+use mathlib.Core.Bool.{false, cond, _&&_}
 use mathlib.Core.List.{List, [], _∷_}
 use lib.IntN.{pos}
 use lib.Dec.{leb}
@@ -10,6 +10,7 @@ use Rattle.leaves.specs.Reply.{Reply, answered, refused}
 use Rattle.leaves.specs.Number.{plusZero, one, absOf, squareOf}
 use Rattle.leaves.specs.Root.{rootS}
 use Rattle.leaves.specs.declared.norm.Sums.{Sums}
+use Rattle.leaves.specs.declared.norm.Normed.{Normed}
 
 -- rdwarf 3.834e-20 and rgiant 1.304e19, as the doubles nearest to these decimal fractions
 unfoldable pub rdwarf : Float
@@ -88,6 +89,7 @@ norm xs = finish (accumulate (agiant (length xs)) none xs)
 unfoldable pub enorm : List Float → Reply Float
 enorm xs = cond (leb (length xs) 128) (answered (norm xs)) (refused 2)
 
--- the same number for callers whose vectors are never longer: +0 where enorm refuses
-unfoldable pub normOr : List Float → Float
-normOr xs = cond (leb (length xs) 128) (norm xs) plusZero
+-- a reply as the code carries it, in a struct: the number and 0, or +0 and the number of the refusal
+abbrev pub carried : Reply Float → Normed
+carried (answered x) = record { value = x; refusal = 0 }
+carried (refused k) = record { value = plusZero; refusal = k }

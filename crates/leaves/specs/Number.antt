@@ -1,5 +1,4 @@
 -- 01, 'Leaf rules', the first rule and the constants: numbers by themselves.
-use Prim.Native.Nat.{ℕ}
 use mathlib.Core.Bool.{Bool, true, false, cond}
 use lib.IntN.{pos, negsuc}
 use lib.Ieee.{Float, nan, inf, fin, binary64, mul, lt, isNan}

@@ -1,13 +1,11 @@
 // Document 01, 'Leaf rules', enorm: MINPACK-1's ENORM with document 01's limits. Sums of squares are kept apart for
 // small, middle and large entries, so that no square overflows or is lost.
 use crate::number::abs;
-use crate::reply::Value;
 use crate::root::sqrt;
 ghost use mathlib.Core.Path.{_≡_};
 ghost use Prim.Native.Nat.{_≤_};
 ghost use lib.ListN.{length};
-ghost use Rattle.leaves.specs.Reply.{valueOf};
-ghost use Rattle.leaves.specs.Norm.{large as largeOf, small as smallOf, step as stepOf, finish as finishOf, norm as normOf, enorm as enormOf, normOr};
+ghost use Rattle.leaves.specs.Norm.{large as largeOf, small as smallOf, step as stepOf, finish as finishOf, norm as normOf, enorm as enormOf, carried};
 
 const RDWARF: f64 = 3.834e-20;
 
@@ -141,21 +139,35 @@ fn sum_up(v: &[f64]) -> f64
     finish(t)
 }
 
-pub fn enorm(v: &[f64]) -> Value
-    ensures { λ r. ⌜ valueOf r ≡ enormOf (now (v .entry)) ⌝ }
-{
-    if v.len() > 128 {
-        return Value::Refused(2);
-    }
-    Value::Is(sum_up(v))
+// A norm, or the number of a refusal: 0 for none. By value, so that it stays in registers; an enum that carries a number goes through
+// memory (docs/DECISIONS.md, D65).
+pub struct Normed {
+    pub value: f64,
+    pub refusal: u8,
 }
 
-// The same number as it is, for callers whose vectors are never longer: a reply that carries a number goes through memory.
-pub fn norm(v: &[f64]) -> f64
-    ensures { λ r. ⌜ r ≡ normOr (now (v .entry)) ⌝ }
+// The Euclidean norm of v.
+//
+// v: at most 128 numbers, only read. Of none the norm is +0.
+// Refused 2 for more; the value is then +0 and means nothing.
+// The sum is called at two places, or it would be built in here and the answer go through memory (docs/SPEED.md).
+pub fn enorm(v: &[f64]) -> Normed
+    ensures { λ r. ⌜ r ≡ carried (enormOf (now (v .entry))) ⌝ }
 {
     if v.len() > 128 {
-        return 0.0;
+        return Normed {
+            value: 0.0,
+            refusal: 2,
+        };
     }
-    sum_up(v)
+    if v.len() <= 16 {
+        return Normed {
+            value: sum_up(v),
+            refusal: 0,
+        };
+    }
+    Normed {
+        value: sum_up(v),
+        refusal: 0,
+    }
 }

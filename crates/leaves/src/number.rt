@@ -9,31 +9,35 @@ const EPSMCH: f64 = 2.220446049250313e-16;
 // 2^-1022.
 const DWARF: f64 = 2.2250738585072014e-308;
 
+// 2^−52: the distance from 1 to the next double. Refuses nothing.
 pub fn epsmch() -> f64
     ensures { λ r. ⌜ r ≡ epsmchOf ⌝ }
 {
     EPSMCH
 }
 
+// 2^−1022: the least normal double. Refuses nothing.
 pub fn dwarf() -> f64
     ensures { λ r. ⌜ r ≡ dwarfOf ⌝ }
 {
     DWARF
 }
 
-// The sign bit. A zero shows its sign only in a quotient.
+// Whether the sign bit of x is set, of a zero too; a NaN counts as not negative. A zero shows its sign only in a quotient. Refuses nothing.
 pub fn is_negative(x: f64) -> bool
     ensures { λ r. ⌜ r ≡ isNegative x ⌝ }
 {
     if x == 0.0 { 1.0 / x < 0.0 } else { x < 0.0 }
 }
 
+// The absolute value of x: −x where its sign bit is set. Refuses nothing.
 pub fn abs(x: f64) -> f64
     ensures { λ r. ⌜ r ≡ absOf x ⌝ }
 {
     if is_negative(x) { -x } else { x }
 }
 
+// The larger of a and b: the other where one is NaN, a where they are equal. Refuses nothing.
 pub fn max(a: f64, b: f64) -> f64
     ensures { λ r. ⌜ r ≡ maxOf a b ⌝ }
 {
@@ -43,6 +47,7 @@ pub fn max(a: f64, b: f64) -> f64
     if a < b { b } else { a }
 }
 
+// The lesser of a and b: the other where one is NaN, a where they are equal. Refuses nothing.
 pub fn min(a: f64, b: f64) -> f64
     ensures { λ r. ⌜ r ≡ minOf a b ⌝ }
 {
@@ -52,12 +57,14 @@ pub fn min(a: f64, b: f64) -> f64
     if b < a { b } else { a }
 }
 
+// x·x, rounded once. Refuses nothing.
 pub fn square(x: f64) -> f64
     ensures { λ r. ⌜ r ≡ squareOf x ⌝ }
 {
     x * x
 }
 
+// Whether x is neither NaN nor infinite. Refuses nothing.
 pub fn is_finite(x: f64) -> bool
     ensures { λ r. ⌜ r ≡ isFinite x ⌝ }
 {
@@ -65,13 +72,14 @@ pub fn is_finite(x: f64) -> bool
     if -top < x { x < top } else { false }
 }
 
-// The absolute value below a, and at most a. Two-sided, because the absolute value's sign of zero costs a division.
+// Whether |x| < a. Two-sided, because the absolute value's sign of zero costs a division. Refuses nothing.
 pub fn abs_below(x: f64, a: f64) -> bool
     ensures { λ r. ⌜ r ≡ lt (absOf x) a ⌝ }
 {
     if -a < x { x < a } else { false }
 }
 
+// Whether |x| ≤ a, two-sided too. Refuses nothing.
 pub fn abs_within(x: f64, a: f64) -> bool
     ensures { λ r. ⌜ r ≡ le (absOf x) a ⌝ }
 {

@@ -35,7 +35,11 @@ fn solve_down(r: &[f64], apart: usize, n: usize, x: &mut [f64])
     }
 }
 
-// The first n places of x, for the upper triangle of n columns that stand `apart` places apart in r.
+// Solves R·x = b for an upper triangle, from the last place down.
+//
+// r: n columns that stand `apart` places apart, of which the upper triangle is read. x: on entry the right side, on exit the answer, in its
+// first n; its surplus is not touched.
+// Refused 3 where n is over `apart`, x has under n places, or r is shorter than n columns; x is then as it was.
 pub fn solve_upper(r: &[f64], apart: usize, n: usize, x: &mut [f64]) -> Done
     ensures { λ d. ⌜ (doneOf d, now (x .exit)) ≡ solveUpper apart n (now (r .entry)) (now (x .entry)) ⌝ }
 {

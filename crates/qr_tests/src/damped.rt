@@ -2,8 +2,7 @@
 use crate::near;
 use crate::near::default_epsilon;
 use crate::problem;
-use crate::room;
-use factor::least_squares::solve_with_diagonal;
+use crate::side;
 
 const DIAG_1: [f64; 3] = [1.0, 0.5, 0.0];
 
@@ -24,26 +23,20 @@ const R_AND_L: [f64; 9] = [
     -0.000000000000001,
 ];
 
-pub fn test_elimate_diag_and_l() -> bool {
-    let mut store = room::store();
-    let mut order = room::order();
-    let mut out = room::out();
-    let st = problem::first(&mut store, &mut order);
-    solve_with_diagonal(st, &mut store, &order, &DIAG_1, &mut out);
+pub(crate) fn test_elimate_diag_and_l() -> bool {
+    let p = side::damped(problem::first(), &DIAG_1);
+    let store = p.store;
     let e = default_epsilon();
-    near::all(&store, 15, &L_DIAG, e) & near::all(&store, 0, &R_AND_L, e)
+    near::all(store, 15, &L_DIAG, e) & near::all(store, 0, &R_AND_L, e)
 }
 
 // test_lls_x_1
 const STEP_1: [f64; 3] = [0.459330143540669, 0.918660287081341, -0.287081339712919];
 
-pub fn test_lls_x_1() -> bool {
-    let mut store = room::store();
-    let mut order = room::order();
-    let mut out = room::out();
-    let st = problem::first(&mut store, &mut order);
-    solve_with_diagonal(st, &mut store, &order, &DIAG_1, &mut out);
-    near::all(&out, 0, &STEP_1, 1e-14)
+pub(crate) fn test_lls_x_1() -> bool {
+    let p = side::damped(problem::first(), &DIAG_1);
+    let out = p.out;
+    near::all(out, 0, &STEP_1, 1e-14)
 }
 
 // test_lls_x_2: R is singular, L is not.
@@ -70,12 +63,11 @@ const DIAG_2: [f64; 3] = [2.772724292099739, 0.536656314599949, 0.08944271909999
 
 const STEP_2: [f64; 3] = [-0.000277544878320, -0.046225239392197, 0.266720628065249];
 
-pub fn test_lls_x_2() -> bool {
-    let mut store = room::store();
-    let mut order = room::order();
-    let mut out = room::out();
-    let st = problem::lls(4, 3, &SINGULAR, &RESIDUALS_2, &mut store, &mut order);
-    let r = near::diagonal(&store, &R_DIAG_2, default_epsilon());
-    solve_with_diagonal(st, &mut store, &order, &DIAG_2, &mut out);
-    r & near::all(&out, 0, &STEP_2, 1e-14)
+pub(crate) fn test_lls_x_2() -> bool {
+    let p = problem::lls(4, 3, &SINGULAR, &RESIDUALS_2);
+    let store = p.store;
+    let r = near::diagonal(store, &R_DIAG_2, default_epsilon());
+    let q = side::damped(p, &DIAG_2);
+    let out = q.out;
+    r & near::all(out, 0, &STEP_2, 1e-14)
 }

@@ -3,7 +3,6 @@
 use crate::near;
 use crate::near::default_epsilon;
 use crate::problem;
-use crate::room;
 
 // test_pivoted_qr
 const SMALL_ORDER: [usize; 3] = [1, 2, 0];
@@ -16,27 +15,26 @@ const SMALL_ABOVE_1: [f64; 1] = [0.3698001308168193];
 
 const SMALL_ABOVE_2: [f64; 2] = [-0.18490006540840964, 1.9503830421256012];
 
-pub fn test_pivoted_qr() -> bool {
-    let mut store = room::store();
-    let mut order = room::order();
-    problem::small(&mut store, &mut order);
+pub(crate) fn test_pivoted_qr() -> bool {
+    let p = problem::small();
+    let store = p.store;
+    let order = p.order;
     let e = default_epsilon();
-    let a = near::places(&order, &SMALL_ORDER);
-    let b = near::all(&store, 12, &SMALL_NORMS, e);
-    let c = near::diagonal(&store, &SMALL_DIAGONAL, e);
-    let d = near::all(&store, 3, &SMALL_ABOVE_1, 1e-14);
-    let f = near::all(&store, 6, &SMALL_ABOVE_2, 1e-14);
+    let a = near::places(order, &SMALL_ORDER);
+    let b = near::all(store, 12, &SMALL_NORMS, e);
+    let c = near::diagonal(store, &SMALL_DIAGONAL, e);
+    let d = near::all(store, 3, &SMALL_ABOVE_1, 1e-14);
+    let f = near::all(store, 6, &SMALL_ABOVE_2, 1e-14);
     a & b & c & d & f
 }
 
 // test_pivoted_qr_more_branches
 const BRANCHES_DIAGONAL: [f64; 3] = [-67.683085036070864, -55.250741178610944, 0.00000000000001];
 
-pub fn test_pivoted_qr_more_branches() -> bool {
-    let mut store = room::store();
-    let mut order = room::order();
-    problem::second(&mut store, &mut order);
-    near::diagonal(&store, &BRANCHES_DIAGONAL, 1e-14)
+pub(crate) fn test_pivoted_qr_more_branches() -> bool {
+    let p = problem::second();
+    let store = p.store;
+    near::diagonal(store, &BRANCHES_DIAGONAL, 1e-14)
 }
 
 // test_pivoted_qr_big_rank1: entry (i, j) is (i + 1)·(j + 1). The expected values are those of MINPACK's QRFAC.
@@ -105,25 +103,23 @@ const RANK1_ABOVE_3: [f64; 3] = [-78.485667481394330, 0.0, 0.0];
 
 const RANK1_ABOVE_4: [f64; 4] = [-19.621416870348583, 0.0, 0.0, 0.0];
 
-pub fn test_pivoted_qr_big_rank1() -> bool {
-    let mut store = room::store();
-    let mut order = room::order();
-    problem::lls(10, 5, &RANK1, &NO_RESIDUALS, &mut store, &mut order);
+pub(crate) fn test_pivoted_qr_big_rank1() -> bool {
+    let p = problem::lls(10, 5, &RANK1, &NO_RESIDUALS);
+    let store = p.store;
     let e = default_epsilon();
-    let a = near::diagonal(&store, &RANK1_DIAGONAL, e);
-    let b = near::all(&store, 5, &RANK1_ABOVE_1, e);
-    let c = near::all(&store, 10, &RANK1_ABOVE_2, e);
-    let d = near::all(&store, 15, &RANK1_ABOVE_3, e);
-    let f = near::all(&store, 20, &RANK1_ABOVE_4, e);
+    let a = near::diagonal(store, &RANK1_DIAGONAL, e);
+    let b = near::all(store, 5, &RANK1_ABOVE_1, e);
+    let c = near::all(store, 10, &RANK1_ABOVE_2, e);
+    let d = near::all(store, 15, &RANK1_ABOVE_3, e);
+    let f = near::all(store, 20, &RANK1_ABOVE_4, e);
     a & b & c & d & f
 }
 
 // test_into_lls: from Python's lmmin and SciPy's MINPACK.
 const SMALL_QT_B: [f64; 3] = [-3.790451340872398, 1.4266308163005572, 2.334839404175348];
 
-pub fn test_into_lls() -> bool {
-    let mut store = room::store();
-    let mut order = room::order();
-    problem::small(&mut store, &mut order);
-    near::all(&store, 9, &SMALL_QT_B, 1e-14)
+pub(crate) fn test_into_lls() -> bool {
+    let p = problem::small();
+    let store = p.store;
+    near::all(store, 9, &SMALL_QT_B, 1e-14)
 }

@@ -3,13 +3,13 @@ use crate::near;
 use crate::near::default_epsilon;
 use crate::problem;
 use crate::room;
+use crate::side;
 use factor::answer::Truth;
 use factor::cholesky::mul_qt_b;
 use factor::cholesky::solve;
-use factor::least_squares::solve_with_zero_diagonal;
-use factor::measures::is_non_singular;
 use factor::state::Held;
 use factor::state::State;
+use measures::measures::is_non_singular;
 
 fn affirmed(answer: Truth) -> bool {
     match answer {
@@ -21,16 +21,15 @@ fn affirmed(answer: Truth) -> bool {
 // test_lls_zero_diagonal
 const STEP: [f64; 3] = [87.0, -38.0, 10.0];
 
-pub fn test_lls_zero_diagonal() -> bool {
-    let mut store = room::store();
-    let mut order = room::order();
-    let mut out = room::out();
-    let st = problem::third(&mut store, &mut order);
-    let t = is_non_singular(st, &mut store);
+pub(crate) fn test_lls_zero_diagonal() -> bool {
+    let p = problem::third();
+    let state = p.state;
+    let mut store = p.store;
+    let t = is_non_singular(state, &mut store);
     let answer = t.answer;
-    let full = affirmed(answer);
-    solve_with_zero_diagonal(st, &mut store, &order, &mut out);
-    full & near::all(&out, 0, &STEP, default_epsilon())
+    let q = side::zero(p);
+    let out = q.out;
+    affirmed(answer) & near::all(out, 0, &STEP, default_epsilon())
 }
 
 // The two tests of the Rust's `CholeskyFactor` build one by hand: here the store is written by hand. Behind the square stand qt_b, the
@@ -99,12 +98,20 @@ fn of_three(held: Held) -> State {
 const RHS: [f64; 3] = [1.0, 2.0, 0.5];
 
 // `mul_qt_b`, then `solve`.
-fn both(st: State, store: &mut [f64], order: &[usize], product: &[f64], solution: &[f64]) -> bool {
-    let mut out = room::out();
-    mul_qt_b(st, store, &mut out);
-    let a = near::all(&out, 0, product, default_epsilon());
-    solve(st, store, order, &RHS, &mut out);
-    a & near::all(&out, 0, solution, default_epsilon())
+fn both(
+    held: Held,
+    by_hand: [f64; 21],
+    order: &[usize],
+    product: &[f64],
+    solution: &[f64],
+) -> bool {
+    let st = of_three(held);
+    let mut store = by_hand;
+    let mut out = room::vector();
+    mul_qt_b(st, &mut store, &mut out);
+    let a = near::all(out, 0, product, default_epsilon());
+    solve(st, &mut store, order, &RHS, &mut out);
+    a & near::all(out, 0, solution, default_epsilon())
 }
 
 // test_cholesky_lower
@@ -114,12 +121,10 @@ const LOWER_PRODUCT: [f64; 3] = [2.0, 4.0, 2.05];
 
 const LOWER_SOLUTION: [f64; 3] = [1.0, 0.0, -5.0];
 
-pub fn test_cholesky_lower() -> bool {
-    let mut store = lower();
-    let st = of_three(Held::Damped);
+pub(crate) fn test_cholesky_lower() -> bool {
     both(
-        st,
-        &mut store,
+        Held::Damped,
+        lower(),
         &LOWER_ORDER,
         &LOWER_PRODUCT,
         &LOWER_SOLUTION,
@@ -133,12 +138,10 @@ const UPPER_PRODUCT: [f64; 3] = [4.0, 19.0, 21.5];
 
 const UPPER_SOLUTION: [f64; 3] = [0.125, 0.1875, -0.06944444444444445];
 
-pub fn test_cholesky_upper() -> bool {
-    let mut store = upper();
-    let st = of_three(Held::Zero);
+pub(crate) fn test_cholesky_upper() -> bool {
     both(
-        st,
-        &mut store,
+        Held::Zero,
+        upper(),
         &UPPER_ORDER,
         &UPPER_PRODUCT,
         &UPPER_SOLUTION,

@@ -13,6 +13,7 @@ mod near;
 mod problem;
 mod report;
 mod room;
+mod side;
 mod wide;
 
 // One half of the tests: how many failed.

@@ -2,11 +2,10 @@
 use crate::near;
 use crate::near::default_epsilon;
 use crate::problem;
-use crate::room;
-use factor::gradient::Gradient;
-use factor::measures::a_x_norm;
-use factor::measures::max_a_t_b_scaled;
 use leaves::reply::Value;
+use measures::gradient::Gradient;
+use measures::measures::a_x_norm;
+use measures::measures::max_a_t_b_scaled;
 
 fn measures(answer: Gradient, expected: f64, epsilon: f64) -> bool {
     match answer {
@@ -44,15 +43,16 @@ const SINGULAR: [f64; 12] = [
 const ZERO: [f64; 12] = [0.0, 0.0, 0.0, 0.0, 0.0, 0.0, 0.0, 0.0, 0.0, 0.0, 0.0, 0.0];
 
 fn gradient_is(jacobian: &[f64], expected: f64, epsilon: f64) -> bool {
-    let mut store = room::store();
-    let mut order = room::order();
-    let st = problem::lls(4, 3, jacobian, &B, &mut store, &mut order);
-    let t = max_a_t_b_scaled(st, &mut store, &order, 1.0);
+    let p = problem::lls(4, 3, jacobian, &B);
+    let state = p.state;
+    let mut store = p.store;
+    let order = p.order;
+    let t = max_a_t_b_scaled(state, &mut store, &order, 1.0);
     let answer = t.answer;
     measures(answer, expected, epsilon)
 }
 
-pub fn test_column_max_norm() -> bool {
+pub(crate) fn test_column_max_norm() -> bool {
     gradient_is(&SINGULAR, 0.88499332, 1e-8) & gradient_is(&ZERO, 0.0, 0.0)
 }
 
@@ -63,11 +63,12 @@ const NO_RESIDUALS: [f64; 4] = [0.0, 0.0, 0.0, 0.0];
 
 const X: [f64; 3] = [1.0, 8.0, 3.0];
 
-pub fn test_a_x_norm() -> bool {
-    let mut store = room::store();
-    let mut order = room::order();
-    let st = problem::lls(4, 3, &A, &NO_RESIDUALS, &mut store, &mut order);
-    let t = a_x_norm(st, &mut store, &order, &X);
+pub(crate) fn test_a_x_norm() -> bool {
+    let p = problem::lls(4, 3, &A, &NO_RESIDUALS);
+    let state = p.state;
+    let mut store = p.store;
+    let order = p.order;
+    let t = a_x_norm(state, &mut store, &order, &X);
     let answer = t.answer;
     is(answer, leaves::root::sqrt(6710.0), default_epsilon())
 }

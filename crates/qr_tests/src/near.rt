@@ -5,7 +5,7 @@ use leaves::number::is_finite;
 use leaves::number::max;
 
 // approx's rule, with its default bound EPSILON for the relative difference.
-pub fn relative_eq(a: f64, b: f64, epsilon: f64) -> bool {
+pub(crate) fn relative_eq(a: f64, b: f64, epsilon: f64) -> bool {
     if a == b {
         return true;
     }
@@ -23,13 +23,13 @@ pub fn relative_eq(a: f64, b: f64, epsilon: f64) -> bool {
 }
 
 // approx's default bound for the absolute difference, EPSILON too.
-pub fn default_epsilon() -> f64 {
+pub(crate) fn default_epsilon() -> f64 {
     epsmch()
 }
 
 // A place past the end reads as an infinity, which is near no number that is expected.
-fn at(v: &[f64], i: usize) -> f64 {
-    if i < v.len() {
+fn at(v: [f64; 64], i: usize) -> f64 {
+    if i < 64 {
         v[i]
     } else {
         f64::from_bits(0x7ff0_0000_0000_0000)
@@ -37,7 +37,7 @@ fn at(v: &[f64], i: usize) -> f64 {
 }
 
 // Whether v, from a place on, is near all of `expected`.
-pub fn all(v: &[f64], from: usize, expected: &[f64], epsilon: f64) -> bool {
+pub(crate) fn all(v: [f64; 64], from: usize, expected: &[f64], epsilon: f64) -> bool {
     let mut good = true;
     let mut i: usize = 0;
     while i < expected.len() {
@@ -49,7 +49,7 @@ pub fn all(v: &[f64], from: usize, expected: &[f64], epsilon: f64) -> bool {
 }
 
 // Whether the diagonal of the square that a store begins with is near all of `expected`, which has a number for each column.
-pub fn diagonal(store: &[f64], expected: &[f64], epsilon: f64) -> bool {
+pub(crate) fn diagonal(store: [f64; 64], expected: &[f64], epsilon: f64) -> bool {
     let apart = std::num::wrapping_add_usize(expected.len(), 1);
     let mut good = true;
     let mut from: usize = 0;
@@ -63,11 +63,11 @@ pub fn diagonal(store: &[f64], expected: &[f64], epsilon: f64) -> bool {
 }
 
 // A place past the end reads as 99, which is no column.
-fn place(v: &[usize], i: usize) -> usize {
-    if i < v.len() { v[i] } else { 99 }
+fn place(v: [usize; 8], i: usize) -> usize {
+    if i < 8 { v[i] } else { 99 }
 }
 
-pub fn places(v: &[usize], expected: &[usize]) -> bool {
+pub(crate) fn places(v: [usize; 8], expected: &[usize]) -> bool {
     let mut good = true;
     let mut i: usize = 0;
     while i < expected.len() {

@@ -10,12 +10,12 @@ fn verdict(good: bool) -> u64 {
 }
 
 // Answers how many failed: 0 or 1.
-pub fn line(name: &[u8], good: bool) -> u64 {
+pub(crate) fn line(name: &[u8], good: bool) -> u64 {
     io::write_all(1, name);
     verdict(good)
 }
 
-pub fn sum(a: u64, b: u64, c: u64) -> u64 {
+pub(crate) fn sum(a: u64, b: u64, c: u64) -> u64 {
     std::num::wrapping_add_u64(a, std::num::wrapping_add_u64(b, c))
 }
 
@@ -24,7 +24,7 @@ fn ones(k: u64) -> u8 {
 }
 
 // There are fewer than twenty tests, so the ten's digit is 1 or is not there.
-pub fn total(failed: u64) {
+pub(crate) fn total(failed: u64) {
     io::write_all(1, b"14 tests, ");
     if failed >= 10 {
         io::write_all(1, b"1");

@@ -3,15 +3,8 @@
 use crate::near;
 use crate::near::default_epsilon;
 use crate::problem;
-use crate::problem::opened;
-use crate::problem::written;
-use crate::room;
-use factor::cholesky::mul_qt_b;
-use factor::cholesky::solve;
-use factor::least_squares::solve_with_diagonal;
-use factor::least_squares::solve_with_zero_diagonal;
-use factor::state::State;
-use factor::state::Told;
+use crate::side;
+use crate::side::Side;
 
 const WIDE: [f64; 8] = [6.0, 4.0, 4.0, 0.0, 9.0, 8.0, 8.0, 7.0];
 
@@ -59,20 +52,45 @@ const FULL_THIN: [f64; 16] = [
 // The wide problem takes the first two.
 const B: [f64; 4] = [7.0, -5.0, 0.0, 0.0];
 
+// Both problems, and whether all that was compared so far is alike.
+struct Pair {
+    one: Side,
+    two: Side,
+    good: bool,
+}
+
+fn near_all(a: [f64; 64], b: [f64; 64]) -> bool {
+    near::all(a, 0, &b, default_epsilon())
+}
+
+// The problems' whole stores, and their order lists.
+fn rooms_alike(one: Side, two: Side) -> bool {
+    let a = one.store;
+    let b = two.store;
+    let order = one.order;
+    let other = two.order;
+    near_all(a, b) & near::places(order, &other)
+}
+
+// What the last calls wrote is alike, and neither was refused.
+fn pair_of(one: Side, two: Side, good: bool) -> Pair {
+    let a = one.out;
+    let b = two.out;
+    Pair {
+        one: one,
+        two: two,
+        good: good & one.good & two.good & near_all(a, b),
+    }
+}
+
 fn alike(wide: &[f64], full: &[f64]) -> bool {
-    let mut store1 = room::store();
-    let mut store2 = room::store();
-    let mut order1 = room::order();
-    let mut order2 = room::order();
-    let st1 = problem::lls(2, 4, wide, &B, &mut store1, &mut order1);
-    let st2 = problem::lls(4, 4, full, &B, &mut store2, &mut order2);
-    let a = near::places(&order1, &order2);
-    let b = near::all(&store1, 0, &store2, default_epsilon());
-    opened(st1) & opened(st2) & a & b
+    let p = problem::lls(2, 4, wide, &B);
+    let q = problem::lls(4, 4, full, &B);
+    p.good & q.good & rooms_alike(p, q)
 }
 
 // test_wide_matrix
-pub fn test_wide_matrix() -> bool {
+pub(crate) fn test_wide_matrix() -> bool {
     alike(&WIDE, &FULL) & alike(&WIDE_THIN, &FULL_THIN)
 }
 
@@ -87,139 +105,37 @@ const DIAG_2: [f64; 4] = [0.1, 20.0, 8.2, 1.5];
 
 const RHS_2: [f64; 4] = [0.851, 0.21, 0.629, 0.714];
 
-// Both problems' states, and whether all that was compared so far is alike.
-struct Pair {
-    one: State,
-    two: State,
-    good: bool,
-}
-
-fn pair_of(one: Told, two: Told, good: bool) -> Pair {
-    let a = one.answer;
-    let b = two.answer;
-    let first = one.state;
-    let second = two.state;
-    Pair {
-        one: first,
-        two: second,
-        good: written(a) & written(b) & good,
-    }
-}
-
-fn damped(
-    p: Pair,
-    store1: &mut [f64],
-    store2: &mut [f64],
-    order1: &[usize],
-    order2: &[usize],
-    diag: &[f64],
-) -> Pair {
-    let mut x1 = room::out();
-    let mut x2 = room::out();
+// The product, with the rooms as they were before it: nothing of them but work changes.
+fn multiplied(p: Pair) -> Pair {
     let one = p.one;
     let two = p.two;
-    let t1 = solve_with_diagonal(one, store1, order1, diag, &mut x1);
-    let t2 = solve_with_diagonal(two, store2, order2, diag, &mut x2);
-    pair_of(t1, t2, p.good & near::all(&x1, 0, &x2, default_epsilon()))
-}
-
-fn solved(
-    p: Pair,
-    store1: &mut [f64],
-    store2: &mut [f64],
-    order1: &[usize],
-    order2: &[usize],
-    rhs: &[f64],
-) -> Pair {
-    let mut x1 = room::out();
-    let mut x2 = room::out();
-    let one = p.one;
-    let two = p.two;
-    let t1 = solve(one, store1, order1, rhs, &mut x1);
-    let t2 = solve(two, store2, order2, rhs, &mut x2);
-    pair_of(t1, t2, p.good & near::all(&x1, 0, &x2, default_epsilon()))
-}
-
-// With the rooms as they were before: nothing of them but work changes.
-fn multiplied(p: Pair, store1: &mut [f64], store2: &mut [f64]) -> Pair {
-    let mut x1 = room::out();
-    let mut x2 = room::out();
-    let rooms = near::all(store1, 0, store2, default_epsilon());
-    let one = p.one;
-    let two = p.two;
-    let t1 = mul_qt_b(one, store1, &mut x1);
-    let t2 = mul_qt_b(two, store2, &mut x2);
-    let products = near::all(&x1, 0, &x2, default_epsilon());
-    pair_of(t1, t2, p.good & rooms & products)
-}
-
-fn zero(
-    p: Pair,
-    store1: &mut [f64],
-    store2: &mut [f64],
-    order1: &[usize],
-    order2: &[usize],
-) -> Pair {
-    let mut x1 = room::out();
-    let mut x2 = room::out();
-    let one = p.one;
-    let two = p.two;
-    let t1 = solve_with_zero_diagonal(one, store1, order1, &mut x1);
-    let t2 = solve_with_zero_diagonal(two, store2, order2, &mut x2);
-    pair_of(t1, t2, p.good & near::all(&x1, 0, &x2, default_epsilon()))
+    let rooms = rooms_alike(one, two);
+    pair_of(side::multiplied(one), side::multiplied(two), p.good & rooms)
 }
 
 // A damped solve and what it holds.
-fn damping(
-    p: Pair,
-    store1: &mut [f64],
-    store2: &mut [f64],
-    order1: &[usize],
-    order2: &[usize],
-    diag: &[f64],
-    rhs: &[f64],
-) -> Pair {
-    let a = damped(p, store1, store2, order1, order2, diag);
-    let b = solved(a, store1, store2, order1, order2, rhs);
-    multiplied(b, store1, store2)
+fn damping(p: Pair, diag: &[f64], rhs: &[f64]) -> Pair {
+    let one = p.one;
+    let two = p.two;
+    let q = pair_of(side::damped(one, diag), side::damped(two, diag), p.good);
+    let three = q.one;
+    let four = q.two;
+    multiplied(pair_of(side::solved(three, rhs), side::solved(four, rhs), q.good))
 }
 
 // The zero solve and what it holds.
-fn ending(
-    p: Pair,
-    store1: &mut [f64],
-    store2: &mut [f64],
-    order1: &[usize],
-    order2: &[usize],
-) -> bool {
-    let a = zero(p, store1, store2, order1, order2);
-    let b = multiplied(a, store1, store2);
-    b.good
+fn ending(p: Pair) -> bool {
+    let one = p.one;
+    let two = p.two;
+    let q = multiplied(pair_of(side::zero(one), side::zero(two), p.good));
+    q.good
 }
 
-fn run(
-    p: Pair,
-    store1: &mut [f64],
-    store2: &mut [f64],
-    order1: &[usize],
-    order2: &[usize],
-) -> bool {
-    let a = damping(p, store1, store2, order1, order2, &DIAG_1, &RHS_1);
-    let b = damping(a, store1, store2, order1, order2, &DIAG_2, &RHS_2);
-    ending(b, store1, store2, order1, order2)
-}
-
-pub fn test_lls_wide_matrix() -> bool {
-    let mut store1 = room::store();
-    let mut store2 = room::store();
-    let mut order1 = room::order();
-    let mut order2 = room::order();
-    let one = problem::lls(2, 4, &WIDE, &C, &mut store1, &mut order1);
-    let two = problem::lls(4, 4, &FULL, &C, &mut store2, &mut order2);
+pub(crate) fn test_lls_wide_matrix() -> bool {
     let p = Pair {
-        one: one,
-        two: two,
+        one: problem::lls(2, 4, &WIDE, &C),
+        two: problem::lls(4, 4, &FULL, &C),
         good: true,
     };
-    run(p, &mut store1, &mut store2, &order1, &order2)
+    ending(damping(damping(p, &DIAG_1, &RHS_1), &DIAG_2, &RHS_2))
 }

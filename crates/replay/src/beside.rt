@@ -1,21 +1,13 @@
-// The held calls through the reader, on copies of the lent rooms, beside the slice functions on the rooms themselves: document 01,
+// The held calls through the reader, with a copy of the output, beside the slice functions on the rooms themselves: document 01,
 // 'What must change shape', has both, and their bits are to be equal.
-use crate::print::held_number;
+use crate::reply::After;
+use crate::reply::held;
 use crate::room;
-use crate::scan::both;
 use factor::state::State;
 use factor::state::Told;
 use leaves::reply::Done;
 use text::double::bits_of;
-ghost use mathlib.Core.Path.{_≡_};
 ghost use Rattle.text.specs.Part.{Part};
-
-// What the slice function told, and whether the reader left the same answer, state, store and output.
-pub struct Pair {
-    pub answer: Done,
-    pub state: State,
-    pub same: bool,
-}
 
 // How many were copied: all, or none where the room is too short, which then shows as a difference.
 fn copied(v: &[f64], room: &mut [f64]) -> usize
@@ -32,10 +24,8 @@ fn copied(v: &[f64], room: &mut [f64]) -> usize
     v.len()
 }
 
-fn same_doubles(a: &[f64], b: &[f64]) -> bool {
-    if a.len() < b.len() {
-        return false;
-    }
+// Whether b begins with a, bit for bit.
+fn begins(a: &[f64], b: &[f64]) -> bool {
     if b.len() < a.len() {
         return false;
     }
@@ -49,104 +39,62 @@ fn same_doubles(a: &[f64], b: &[f64]) -> bool {
     true
 }
 
-fn same_answer(a: Done, b: Done) -> bool {
+// The number of a refusal, 0 for none.
+fn refusal(a: Done) -> u8 {
     match a {
-        Done::Written => match b {
-            Done::Written => true,
-            Done::Refused(_) => false,
-        },
-        Done::Refused(k) => match b {
-            Done::Written => false,
-            Done::Refused(l) => k == l,
-        },
+        Done::Written => 0,
+        Done::Refused(k) => k,
     }
 }
 
-fn same_state(a: State, b: State) -> bool {
-    if a.m != b.m {
-        return false;
-    }
-    if a.n != b.n {
-        return false;
-    }
-    let held = a.held;
-    let other = b.held;
-    held_number(held) == held_number(other)
+// What the reader answered, and the copy of the output after it. It only reads the store.
+struct Beside {
+    answer: Done,
+    out: [f64; 32],
 }
 
-fn same_told(a: Told, b: Told) -> bool {
-    let answer = a.answer;
-    let other = b.answer;
-    if !same_answer(answer, other) {
-        return false;
-    }
-    let state = a.state;
-    let after = b.state;
-    same_state(state, after)
-}
-
-fn same_rooms(store: &[f64], out: &[f64], store_copy: &[f64], out_copy: &[f64]) -> bool {
-    both(same_doubles(store, store_copy), same_doubles(out, out_copy))
-}
-
-fn paired(t: Told, same: bool) -> Pair {
+// Whether the reader left the same answer and output.
+fn same(r: Beside, t: Told, out: &[f64]) -> bool {
     let answer = t.answer;
-    let after = t.state;
-    Pair {
+    let other = r.answer;
+    let out_copy = r.out;
+    begins(out, &out_copy) & (refusal(answer) == refusal(other))
+}
+
+fn solve_beside(st: State, store: &[f64], order: &[usize], rhs: &[f64], out: &[f64]) -> Beside {
+    let mut out_copy = room::out();
+    let u = copied(out, &mut out_copy);
+    let answer = reader::reader::solve_plain(store, st, order, rhs, &mut out_copy[..u]);
+    Beside {
         answer: answer,
-        state: after,
-        same: same,
+        out: out_copy,
     }
 }
 
-fn solve_on(
+pub(crate) fn solve(
     st: State,
     store: &mut [f64],
     order: &[usize],
     rhs: &[f64],
     out: &mut [f64],
-    store_copy: &mut [f64],
-    out_copy: &mut [f64],
-) -> Pair {
-    let r = factor::reader::solve_with_reader(st, store_copy, order, rhs, out_copy);
+) -> After {
+    let r = solve_beside(st, store, order, rhs, out);
     let t = factor::cholesky::solve(st, store, order, rhs, out);
-    let rooms = same_rooms(store, out, store_copy, out_copy);
-    paired(t, both(rooms, same_told(t, r)))
+    held(t, same(r, t, out))
 }
 
-pub fn solve(st: State, store: &mut [f64], order: &[usize], rhs: &[f64], out: &mut [f64]) -> Pair {
-    let mut store_copy = room::store();
+fn mul_beside(st: State, store: &[f64], out: &[f64]) -> Beside {
     let mut out_copy = room::out();
-    let s = copied(store, &mut store_copy);
     let u = copied(out, &mut out_copy);
-    solve_on(
-        st,
-        store,
-        order,
-        rhs,
-        out,
-        &mut store_copy[..s],
-        &mut out_copy[..u],
-    )
+    let answer = reader::reader::mul_plain(store, st, &mut out_copy[..u]);
+    Beside {
+        answer: answer,
+        out: out_copy,
+    }
 }
 
-fn mul_on(
-    st: State,
-    store: &mut [f64],
-    out: &mut [f64],
-    store_copy: &mut [f64],
-    out_copy: &mut [f64],
-) -> Pair {
-    let r = factor::reader::mul_with_reader(st, store_copy, out_copy);
+pub(crate) fn mul(st: State, store: &mut [f64], out: &mut [f64]) -> After {
+    let r = mul_beside(st, store, out);
     let t = factor::cholesky::mul_qt_b(st, store, out);
-    let rooms = same_rooms(store, out, store_copy, out_copy);
-    paired(t, both(rooms, same_told(t, r)))
-}
-
-pub fn mul(st: State, store: &mut [f64], out: &mut [f64]) -> Pair {
-    let mut store_copy = room::store();
-    let mut out_copy = room::out();
-    let s = copied(store, &mut store_copy);
-    let u = copied(out, &mut out_copy);
-    mul_on(st, store, out, &mut store_copy[..s], &mut out_copy[..u])
+    held(t, same(r, t, out))
 }

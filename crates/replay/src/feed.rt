@@ -1,15 +1,17 @@
 // Standard input, a line at a time, and standard output, a roomful at a time.
 use crate::print;
-use crate::scan::within;
+use crate::room;
+use crate::room::Scene;
 use crate::stage;
-use crate::stage::Scene;
 use crate::stage::moved;
+use lines::part::within;
 
-// How many bytes of the line have come, whether or not its room holds them; whether there is more to read.
-pub struct Spot {
-    pub fill: usize,
-    pub more: bool,
-    pub scene: Scene,
+// The place in the chunk; how many bytes of the line have come; whether there is more to read.
+struct Spot {
+    next: usize,
+    fill: usize,
+    more: bool,
+    scene: Scene,
 }
 
 fn write_out(text: &[u8], n: usize) {
@@ -27,96 +29,63 @@ fn flushed(p: Scene, text: &[u8]) -> Scene {
 }
 
 // A line that is longer than its room is not played.
-fn end(
-    line: &[u8],
-    fill: usize,
-    p: Scene,
-    store: &mut [f64],
-    order: &mut [usize],
-    bench: &mut [f64],
-    out: &mut [f64],
-    text: &mut [u8],
-) -> Scene {
+fn end(line: &[u8], fill: usize, p: Scene, text: &mut [u8]) -> Scene {
     let n = within(line, fill);
     if n < fill {
         return moved(p, print::unplayed(true, text, p.at));
     }
-    let q = stage::line(&line[..n], p, store, order, bench, out, text);
+    let q = stage::line(&line[..n], p, text);
     flushed(q, text)
 }
 
-fn keep(line: &mut [u8], i: usize, b: u8) {
-    if i < line.len() {
-        line[i] = b;
-    }
-}
-
-fn next(
-    b: u8,
-    p: Spot,
-    line: &mut [u8],
-    store: &mut [f64],
-    order: &mut [usize],
-    bench: &mut [f64],
-    out: &mut [f64],
-    text: &mut [u8],
-) -> Spot {
+fn next(chunk: &[u8], line: &mut [u8], p: Spot, text: &mut [u8]) -> Spot {
+    let t = lines::feed::line(chunk, p.next, line, p.fill);
     let scene = p.scene;
-    if b == b'\n' {
+    if t.ended {
+        let after = end(line, t.fill, scene, text);
         return Spot {
+            next: t.next,
             fill: 0,
             more: true,
-            scene: end(line, p.fill, scene, store, order, bench, out, text),
+            scene: after,
         };
     }
-    keep(line, p.fill, b);
     Spot {
-        fill: std::num::wrapping_add_usize(p.fill, 1),
+        next: t.next,
+        fill: t.fill,
         more: true,
         scene: scene,
     }
 }
 
-fn feed(
-    chunk: &[u8],
-    p: Spot,
-    line: &mut [u8],
-    store: &mut [f64],
-    order: &mut [usize],
-    bench: &mut [f64],
-    out: &mut [f64],
-    text: &mut [u8],
-) -> Spot {
+// A chunk has no more lines than bytes.
+fn feed(chunk: &[u8], line: &mut [u8], p: Spot, text: &mut [u8]) -> Spot {
     let mut q = p;
+    q.next = 0;
     let mut i: usize = 0;
     while i < chunk.len() {
-        let b = chunk[i];
+        if chunk.len() <= q.next {
+            return q;
+        }
+        q = next(chunk, line, q, text);
         i += 1;
-        q = next(b, q, line, store, order, bench, out, text);
     }
     q
 }
 
 // One read. At the end of the input, or where a read fails, what is left of the text is written out; a last line with no end is
 // not played.
-fn some(
-    p: Spot,
-    line: &mut [u8],
-    store: &mut [f64],
-    order: &mut [usize],
-    bench: &mut [f64],
-    out: &mut [f64],
-    text: &mut [u8],
-) -> Spot {
+fn some(line: &mut [u8], p: Spot, text: &mut [u8]) -> Spot {
     let mut chunk = io::large_buffer();
     let got = libc::read(0, &mut chunk);
     if got > 0 {
         let n = io::count(got, &chunk);
-        return feed(&chunk[..n], p, line, store, order, bench, out, text);
+        return feed(&chunk[..n], line, p, text);
     }
     let scene = p.scene;
     write_out(text, scene.at);
     Spot {
+        next: 0,
         fill: 0,
         more: false,
         scene: scene,
@@ -124,25 +93,20 @@ fn some(
 }
 
 // Nothing says that the input ends, so the turns are counted down from a number that no run uses up.
-pub fn all(
-    line: &mut [u8],
-    store: &mut [f64],
-    order: &mut [usize],
-    bench: &mut [f64],
-    out: &mut [f64],
-    text: &mut [u8],
-) {
+pub(crate) fn all(line: &mut [u8], text: &mut [u8]) {
+    let scene = room::bare(0);
     let mut p = Spot {
+        next: 0,
         fill: 0,
         more: true,
-        scene: stage::bare(0),
+        scene: scene,
     };
     let mut turns = u64::MAX;
     while turns > 0 {
         if !p.more {
             return;
         }
-        p = some(p, line, store, order, bench, out, text);
+        p = some(line, p, text);
         turns -= 1;
     }
 }

@@ -1,22 +1,21 @@
-// The items of a script, played on the lent rooms.
+// The items of a script, played on rooms that are exactly as long as they were lent.
+use crate::beside;
 use crate::call;
-use crate::call::After;
-use crate::call::unplayed;
-use crate::print;
+use crate::reply::After;
+use crate::reply::of_place;
+use crate::reply::of_truth;
+use crate::reply::quiet;
+use crate::reply::told;
+use crate::reply::unplayed;
 use crate::rescale;
-use crate::scan::byte;
-use crate::scan::word;
+use factor::least_squares::solve_with_zero_diagonal;
 use factor::state::Held;
 use factor::state::State;
+use lines::scan::byte;
+use lines::scan::word;
+use measures::measures::determined;
+use measures::measures::is_non_singular;
 use text::double::of_bits;
-
-fn quiet(st: State, at: usize) -> After {
-    After {
-        state: st,
-        at: at,
-        called: false,
-    }
-}
 
 fn held_of(k: u64) -> Held {
     match k {
@@ -27,106 +26,71 @@ fn held_of(k: u64) -> Held {
     }
 }
 
-fn claim(s: &[u8], st: State, text: &mut [u8], at: usize) -> After {
+fn claim(s: &[u8], st: State) -> After {
     let m = word(s, 2);
     let n = word(s, m.next);
     let held = word(s, n.next);
-    if !held.good {
-        return unplayed(false, st, text, at);
-    }
-    if held.value > 3 {
-        return unplayed(false, st, text, at);
+    let good = held.good & (held.value <= 3);
+    if !good {
+        return unplayed(false, st);
     }
     let claimed = State {
         m: m.value as usize,
         n: n.value as usize,
         held: held_of(held.value),
     };
-    quiet(claimed, at)
+    quiet(claimed)
 }
 
-fn put_order(s: &[u8], st: State, order: &mut [usize], text: &mut [u8], at: usize) -> After {
+fn put_order(s: &[u8], st: State, order: &mut [usize]) -> After {
     let k = word(s, 2);
     let v = word(s, k.next);
     if !v.good {
-        return unplayed(false, st, text, at);
+        return unplayed(false, st);
     }
     let i = k.value as usize;
     if order.len() <= i {
-        return unplayed(true, st, text, at);
+        return unplayed(true, st);
     }
     order[i] = v.value as usize;
-    quiet(st, at)
+    quiet(st)
 }
 
-fn put_store(s: &[u8], st: State, store: &mut [f64], text: &mut [u8], at: usize) -> After {
+fn put_store(s: &[u8], st: State, store: &mut [f64]) -> After {
     let k = word(s, 2);
     let x = word(s, k.next);
     if !x.good {
-        return unplayed(false, st, text, at);
+        return unplayed(false, st);
     }
     let i = k.value as usize;
     if store.len() <= i {
-        return unplayed(true, st, text, at);
+        return unplayed(true, st);
     }
     store[i] = of_bits(x.value);
-    quiet(st, at)
+    quiet(st)
 }
 
-fn act(
+pub(crate) fn play(
     s: &[u8],
     st: State,
     store: &mut [f64],
     order: &mut [usize],
     bench: &mut [f64],
     out: &mut [f64],
-    text: &mut [u8],
-    at: usize,
 ) -> After {
     let op = byte(s, 0);
     match op {
-        b'F' => call::factoring(s, st, store, order, bench, text, at),
-        b'T' => claim(s, st, text, at),
-        b'O' => put_order(s, st, order, text, at),
-        b'W' => put_store(s, st, store, text, at),
-        b'Z' => call::zero(st, store, order, out, text, at),
-        b'M' => call::mul(st, store, out, text, at),
-        b'G' => call::gradient(s, st, store, order, text, at),
-        b'D' | b'S' | b'N' | b'L' => call::with_vector(s, op, st, store, order, out, text, at),
-        b'U' => rescale::scale(s, st, store, text, at),
-        b'P' => call::determined(st, store, text, at),
-        b'Q' => call::non_singular(st, store, text, at),
-        _ => unplayed(false, st, text, at),
+        b'F' => call::factoring(s, st, store, order, bench),
+        b'T' => claim(s, st),
+        b'O' => put_order(s, st, order),
+        b'W' => put_store(s, st, store),
+        b'Z' => told(solve_with_zero_diagonal(st, store, order, out)),
+        b'M' => beside::mul(st, store, out),
+        b'G' => call::gradient(s, st, store, order),
+        b'D' | b'S' | b'N' | b'L' => call::with_vector(s, op, st, store, order, out),
+        b'U' => rescale::scale(s, st, store),
+        b'P' => of_place(determined(st, store)),
+        b'Q' => of_truth(is_non_singular(st, store)),
+        _ => unplayed(false, st),
     }
-}
-
-// The rooms stand after a call alone.
-fn show(
-    a: After,
-    store: &[f64],
-    order: &[usize],
-    bench: &[f64],
-    out: &[f64],
-    text: &mut [u8],
-) -> After {
-    if a.called {
-        let st = a.state;
-        return quiet(st, print::rooms(st, store, order, bench, out, text, a.at));
-    }
-    a
-}
-
-// On rooms that are exactly as long as they were lent.
-pub fn play(
-    s: &[u8],
-    st: State,
-    store: &mut [f64],
-    order: &mut [usize],
-    bench: &mut [f64],
-    out: &mut [f64],
-    text: &mut [u8],
-    at: usize,
-) -> After {
-    let a = act(s, st, store, order, bench, out, text, at);
-    show(a, store, order, bench, out, text)
 }

@@ -3,7 +3,7 @@
 // A script is one item a line, its words one space apart: a letter, then lengths, places and numbers in hex, doubles as 16 hex
 // digits. `R` lends rooms filled with junk, `T`, `O` and `W` meddle with the state, the order list and the store, `.` ends a case,
 // and every other letter is a call. After a call stand its answer, the state, the store, the order list, the bench and the
-// output. A held call is played through the reader as well, on copies; where that leaves anything else, `reader differs` stands
+// output. A held call is played through the reader as well, with a copy of the output; where that leaves anything else, `reader differs` stands
 // after the answer. An item that does not fit this program's rooms prints `too large`, one that cannot be read `does not parse`.
 mod beside;
 mod call;
@@ -11,24 +11,13 @@ mod feed;
 mod item;
 mod junk;
 mod print;
+mod reply;
 mod rescale;
 mod room;
-mod scan;
 mod stage;
 
 fn main() {
     let mut line = room::line();
-    let mut store = room::store();
-    let mut order = room::order();
-    let mut bench = room::bench();
-    let mut out = room::out();
     let mut text = room::text();
-    feed::all(
-        &mut line,
-        &mut store,
-        &mut order,
-        &mut bench,
-        &mut out,
-        &mut text,
-    );
+    feed::all(&mut line, &mut text);
 }

@@ -1,24 +1,78 @@
 // Answers and rooms as text, from a place on. Each function answers the place after what it wrote.
-use factor::answer::Truth;
-use factor::gradient::Gradient;
-use factor::scaling::Scaling;
+use crate::reply::After;
+use crate::reply::Extra;
+use crate::reply::Reply;
+use crate::room::Scene;
+use crate::room::places_within;
 use factor::state::Held;
 use factor::state::State;
-use leaves::reply::Done;
-use leaves::reply::Place;
-use leaves::reply::Value;
-use search::trust_region::Found;
-use text::double::bits_of;
+use lines::part::doubles_within;
+use lines::put::double;
+use lines::put::number;
 use text::put;
 
-fn number(k: usize, text: &mut [u8], at: usize) -> usize {
-    let n = put::bytes(b" ", text, at);
-    put::hex(k as u64, text, n)
+fn sought(lambda: f64, norm: f64, trials: usize, text: &mut [u8], at: usize) -> usize {
+    let a = double(lambda, text, at);
+    let b = double(norm, text, a);
+    number(trials, text, b)
 }
 
-fn double(x: f64, text: &mut [u8], at: usize) -> usize {
-    let n = put::bytes(b" ", text, at);
-    put::word(bits_of(x), text, n)
+fn values(r: Reply, text: &mut [u8], at: usize) -> usize {
+    match r {
+        Reply::Number(x) => double(x, text, at),
+        Reply::Numbers(x, y) => {
+            let a = double(x, text, at);
+            double(y, text, a)
+        }
+        Reply::Place(k) => number(k, text, at),
+        Reply::Sought(lambda, norm, trials) => sought(lambda, norm, trials, text, at),
+        Reply::Plain => at,
+        Reply::Refused(_) => at,
+        Reply::Quiet => at,
+        Reply::Large => at,
+        Reply::Unread => at,
+    }
+}
+
+fn answer(r: Reply, text: &mut [u8], at: usize) -> usize {
+    if let Reply::Refused(k) = r {
+        return lines::put::refused(k, text, at);
+    }
+    let a = put::bytes(b"ok", text, at);
+    values(r, text, a)
+}
+
+// For an item that is not played. No call answers so, and it shows as a difference.
+pub(crate) fn unplayed(large: bool, text: &mut [u8], at: usize) -> usize {
+    if large {
+        return put::bytes(b"too large\n", text, at);
+    }
+    put::bytes(b"does not parse\n", text, at)
+}
+
+fn aside(r: Reply, text: &mut [u8], at: usize) -> usize {
+    if let Reply::Quiet = r {
+        return at;
+    }
+    if let Reply::Large = r {
+        return unplayed(true, text, at);
+    }
+    unplayed(false, text, at)
+}
+
+pub(crate) fn held_number(held: Held) -> usize {
+    match held {
+        Held::Empty => 0,
+        Held::Nothing => 1,
+        Held::Zero => 2,
+        Held::Damped => 3,
+    }
+}
+
+fn row_of_doubles(title: &[u8], v: &[f64], text: &mut [u8], at: usize) -> usize {
+    let a = put::bytes(title, text, at);
+    let b = lines::put::row(v, text, a);
+    put::bytes(b"\n", text, b)
 }
 
 fn numbers(v: &[usize], text: &mut [u8], at: usize) -> usize {
@@ -31,165 +85,59 @@ fn numbers(v: &[usize], text: &mut [u8], at: usize) -> usize {
     k
 }
 
-fn doubles(v: &[f64], text: &mut [u8], at: usize) -> usize {
-    let mut k = at;
-    let mut i: usize = 0;
-    while i < v.len() {
-        k = double(v[i], text, k);
-        i += 1;
-    }
-    k
-}
-
-fn refused(k: u8, text: &mut [u8], at: usize) -> usize {
-    let a = put::bytes(b"refused ", text, at);
-    let b = put::hex(k as u64, text, a);
-    put::bytes(b"\n", text, b)
-}
-
-fn measured(x: f64, text: &mut [u8], at: usize) -> usize {
-    let a = put::bytes(b"ok", text, at);
-    let b = double(x, text, a);
-    put::bytes(b"\n", text, b)
-}
-
-fn counted(k: usize, text: &mut [u8], at: usize) -> usize {
-    let a = put::bytes(b"ok", text, at);
-    let b = number(k, text, a);
-    put::bytes(b"\n", text, b)
-}
-
-pub fn done(r: Done, text: &mut [u8], at: usize) -> usize {
-    match r {
-        Done::Written => put::bytes(b"ok\n", text, at),
-        Done::Refused(k) => refused(k, text, at),
-    }
-}
-
-// A held call's answer, and a line that no oracle prints where the reader left anything else.
-pub fn held(r: Done, same: bool, text: &mut [u8], at: usize) -> usize {
-    let a = done(r, text, at);
-    if same {
-        return a;
-    }
-    put::bytes(b"reader differs\n", text, a)
-}
-
-pub fn gradient(r: Gradient, text: &mut [u8], at: usize) -> usize {
-    match r {
-        Gradient::Measure(x) => measured(x, text, at),
-        Gradient::Refused(k) => refused(k, text, at),
-    }
-}
-
-pub fn value(r: Value, text: &mut [u8], at: usize) -> usize {
-    match r {
-        Value::Is(x) => measured(x, text, at),
-        Value::Refused(k) => refused(k, text, at),
-    }
-}
-
-pub fn place(r: Place, text: &mut [u8], at: usize) -> usize {
-    match r {
-        Place::At(k) => counted(k, text, at),
-        Place::Refused(k) => refused(k, text, at),
-    }
-}
-
-pub fn truth(r: Truth, text: &mut [u8], at: usize) -> usize {
-    match r {
-        Truth::Is(yes) => counted(yes as usize, text, at),
-        Truth::Refused(k) => refused(k, text, at),
-    }
-}
-
-fn sought(lambda: f64, norm: f64, trials: usize, text: &mut [u8], at: usize) -> usize {
-    let a = put::bytes(b"ok", text, at);
-    let b = double(lambda, text, a);
-    let c = double(norm, text, b);
-    let d = number(trials, text, c);
-    put::bytes(b"\n", text, d)
-}
-
-pub fn found(r: Found, text: &mut [u8], at: usize) -> usize {
-    match r {
-        Found::Answer(a) => sought(a.lambda, a.dp_norm, a.trials, text, at),
-        Found::Refused(k) => refused(k, text, at),
-    }
-}
-
-fn started(xnorm: f64, radius: f64, text: &mut [u8], at: usize) -> usize {
-    let a = put::bytes(b"ok", text, at);
-    let b = double(xnorm, text, a);
-    let c = double(radius, text, b);
-    put::bytes(b"\n", text, c)
-}
-
-fn rescaled(r: Scaling, text: &mut [u8], at: usize) -> usize {
-    match r {
-        Scaling::First(t) => started(t.xnorm, t.radius, text, at),
-        Scaling::Later => put::bytes(b"ok\n", text, at),
-        Scaling::Refused(k) => refused(k, text, at),
-    }
-}
-
-// The answer, and the lent scaling after it.
-pub fn scaling(r: Scaling, diag: &[f64], text: &mut [u8], at: usize) -> usize {
-    let a = rescaled(r, text, at);
-    row_of_doubles(b"scaling", diag, text, a)
-}
-
-pub fn held_number(held: Held) -> usize {
-    match held {
-        Held::Empty => 0,
-        Held::Nothing => 1,
-        Held::Zero => 2,
-        Held::Damped => 3,
-    }
-}
-
-fn state(st: State, text: &mut [u8], at: usize) -> usize {
-    let a = put::bytes(b"state", text, at);
-    let b = number(st.m, text, a);
-    let c = number(st.n, text, b);
-    let held = st.held;
-    let d = number(held_number(held), text, c);
-    put::bytes(b"\n", text, d)
-}
-
-fn row_of_doubles(title: &[u8], v: &[f64], text: &mut [u8], at: usize) -> usize {
-    let a = put::bytes(title, text, at);
-    let b = doubles(v, text, a);
-    put::bytes(b"\n", text, b)
-}
-
 fn row_of_numbers(title: &[u8], v: &[usize], text: &mut [u8], at: usize) -> usize {
     let a = put::bytes(title, text, at);
     let b = numbers(v, text, a);
     put::bytes(b"\n", text, b)
 }
 
-// The lent rooms, which are exactly as long as they were lent.
-pub fn rooms(
-    st: State,
-    store: &[f64],
-    order: &[usize],
-    bench: &[f64],
-    out: &[f64],
-    text: &mut [u8],
-    at: usize,
-) -> usize {
-    let a = state(st, text, at);
-    let b = row_of_doubles(b"store", store, text, a);
-    let c = row_of_numbers(b"order", order, text, b);
-    let d = row_of_doubles(b"bench", bench, text, c);
-    row_of_doubles(b"out", out, text, d)
+fn state(st: State, text: &mut [u8], at: usize) -> usize {
+    let held = st.held;
+    let row = [st.m, st.n, held_number(held)];
+    row_of_numbers(b"state", &row, text, at)
 }
 
-// For an item that is not played. No call answers so, and it shows as a difference.
-pub fn unplayed(large: bool, text: &mut [u8], at: usize) -> usize {
-    if large {
-        return put::bytes(b"too large\n", text, at);
+// The lent rooms, which are exactly as long as they were lent.
+fn rooms(p: Scene, text: &mut [u8], at: usize) -> usize {
+    let lent = p.lent;
+    let store = p.store;
+    let order = p.order;
+    let bench = p.bench;
+    let out = p.out;
+    let k = doubles_within(&store, lent.store);
+    let o = places_within(&order, lent.order);
+    let b = doubles_within(&bench, lent.bench);
+    let u = doubles_within(&out, lent.out);
+    let st = p.state;
+    let a = state(st, text, at);
+    let c = row_of_doubles(b"store", &store[..k], text, a);
+    let d = row_of_numbers(b"order", &order[..o], text, c);
+    let e = row_of_doubles(b"bench", &bench[..b], text, d);
+    row_of_doubles(b"out", &out[..u], text, e)
+}
+
+// A line that no oracle prints, or the lent scaling.
+fn extra(x: Extra, scaling: [f64; 64], len: usize, text: &mut [u8], at: usize) -> usize {
+    match x {
+        Extra::Nothing => at,
+        Extra::Differs => put::bytes(b"reader differs\n", text, at),
+        Extra::Scaling => {
+            let n = doubles_within(&scaling, len);
+            row_of_doubles(b"scaling", &scaling[..n], text, at)
+        }
     }
-    put::bytes(b"does not parse\n", text, at)
+}
+
+// What an item answered, and after a call the rooms.
+pub(crate) fn item(a: After, p: Scene, text: &mut [u8]) -> usize {
+    let reply = a.reply;
+    if !a.called {
+        return aside(reply, text, p.at);
+    }
+    let n = answer(reply, text, p.at);
+    let m = put::bytes(b"\n", text, n);
+    let more = a.extra;
+    let scaling = a.scaling;
+    let k = extra(more, scaling, a.len, text, m);
+    rooms(p, text, k)
 }

@@ -11,7 +11,7 @@ use borrow.Author.Tests.{eq-eqb, ne-eqb, ltb-true, ltb-false}
 use Rattle.leaves.specs.Number.{plusZero, one, absOf, squareOf, isFinite}
 use Rattle.leaves.specs.Norm.{rdwarf, agiant, sums, middle, small, large, add-in, step, accumulate, none, finishLarge, finishMiddle, finishSmall, finish, norm}
 use Rattle.leaves.specs.declared.norm.Sums.{Sums}
-use Rattle.factor.specs.Tests.{allFinite}
+use Rattle.leaves.specs.Tests.{allFinite}
 use Rattle.search.specs.Enorm.{squared, largeComponent, smallComponent, component, components, calculated, minpackEnorm}
 use Rattle.search.proofs.Signs.{arms, Signed, round-signed, finite-number}
 
@@ -143,7 +143,3 @@ finite-no-nan [] h = tt
 finite-no-nan (x ∷ xs) h =
     let w = and-eq-true-iff (isFinite x) (allFinite xs) .0 h in
     (finite-number x (w .0), finite-no-nan xs (w .1))
-
--- and so of finite numbers
-pub norm-is-enorm-finite : (unset : Float) (xs : List Float) → allFinite xs ≡ true → norm xs ≡ minpackEnorm unset xs
-norm-is-enorm-finite unset xs h = norm-is-enorm unset xs (finite-no-nan xs h)

@@ -19,9 +19,10 @@ use Rattle.leaves.specs.Reply.{answered}
 use Rattle.leaves.specs.Number.{dwarf, isFinite}
 use Rattle.factor.specs.Room.{load}
 use Rattle.factor.specs.Tests.{notAbove}
-use Rattle.factor.specs.Calls.{Ended, ended, factorCall}
+use Rattle.factor.specs.Outcome.{Ended, ended}
+use Rattle.factor.specs.Factoring.{factorCall}
 use Rattle.factor.specs.declared.state.State.{State}
-use Rattle.factor.proofs.Squares.{diagonal-length}
+use Rattle.leaves.proofs.Squares.{diagonal-length}
 use Rattle.search.specs.Problem.{Problem}
 use Rattle.search.specs.Search.{answerOf, searchCall}
 use Rattle.search.specs.Lmpar.{Given, lmpar}

@@ -11,12 +11,13 @@ use lib.Ieee.{Float, nan, inf, fin, binary64, up, down, add, mul, div, lt, le, e
 use borrow.Author.Tests.{lt-ltb, le-ltb, ltb-true, ltb-false, ne-eqb, eqb-false}
 use Rattle.leaves.specs.Number.{plusZero, absOf}
 use Rattle.leaves.specs.Root.{rootS}
-use Rattle.factor.specs.Room.{zeros}
-use Rattle.factor.specs.Solve.{rank, scatter, gather}
-use Rattle.factor.specs.Eliminate.{Rows, cons, onward, lesser, byCot, givens, turned, left, turnedAll, leftAll, rotated, started, eliminated, rowsFrom, damping, heads, tails, dampedSolved}
-use Rattle.factor.specs.Eliminate as base
-use Rattle.factor.specs.declared.eliminate.Rotation.{Rotation}
-use Rattle.factor.proofs.Triangular.{heads-length}
+use Rattle.leaves.specs.Square.{zeros}
+use Rattle.factor.specs.Solve.{rank, scatter, gather, dampedSolved}
+use Rattle.eliminate.specs.Eliminate.{Rows, cons, onward, lesser, byCot, givens, turned, left, turnedAll, leftAll, rotated, started, eliminated, rowsFrom, damping, heads, tails}
+use Rattle.factor.specs.Solve as base
+use Rattle.eliminate.specs.Eliminate as elimination
+use Rattle.eliminate.specs.declared.eliminate.Rotation.{Rotation}
+use Rattle.eliminate.proofs.Triangular.{heads-length}
 use Rattle.search.specs.Qrsolv.{Turn, byCotan, byTan, turnOf, stays, passes, staysAll, passesAll, turnedIn, madeS, nsingFrom, solveS, permuted, qrsolv}
 use Rattle.search.proofs.Commuting.{times-comm, times-neg}
 use Rattle.search.proofs.LmparVectors.{nsing-is}
@@ -53,8 +54,8 @@ cotan-is : (r s : Float) → byCotan r s ≡ turnBy (byCot r s)
 unfolding byCotan byCot lesser
 cotan-is r s = refl
 
-tan-is : (r s : Float) → byTan r s ≡ turnBy (base.byTan r s)
-unfolding byTan base.byTan lesser
+tan-is : (r s : Float) → byTan r s ≡ turnBy (elimination.byTan r s)
+unfolding byTan elimination.byTan lesser
 tan-is r s = refl
 
 -- where one of the two is NaN, so are both numbers of the rotation, whichever way it is worked out
@@ -79,14 +80,14 @@ nan-over : (x : Float) → div binary64 nan x ≡ nan
 unfolding div
 nan-over x = refl
 
-numbers : (r s : Float) → isNan r ≡ false → isNan s ≡ false → cond (le (absOf s) (absOf r)) (byTan r s) (byCotan r s) ≡ turnBy (cond (lt (absOf r) (absOf s)) (byCot r s) (base.byTan r s))
+numbers : (r s : Float) → isNan r ≡ false → isNan s ≡ false → cond (le (absOf s) (absOf r)) (byTan r s) (byCotan r s) ≡ turnBy (cond (lt (absOf r) (absOf s)) (byCot r s) (elimination.byTan r s))
 numbers r s h k = rw (ge-is r s h k) (by (lt (absOf r) (absOf s)))
   where
-    by : (z : Bool) → cond (not z) (byTan r s) (byCotan r s) ≡ turnBy (cond z (byCot r s) (base.byTan r s))
+    by : (z : Bool) → cond (not z) (byTan r s) (byCotan r s) ≡ turnBy (cond z (byCot r s) (elimination.byTan r s))
     by true = cotan-is r s
     by false = tan-is r s
 
-either : (r s : Float) (z w : Bool) → byTan r s ≡ nowhere → byCotan r s ≡ nowhere → cond z (byTan r s) (byCotan r s) ≡ turnBy (cond w (byCot r s) (base.byTan r s))
+either : (r s : Float) (z w : Bool) → byTan r s ≡ nowhere → byCotan r s ≡ nowhere → cond z (byTan r s) (byCotan r s) ≡ turnBy (cond w (byCot r s) (elimination.byTan r s))
 either r s true true a b = a ∙ sym b ∙ cotan-is r s
 either r s true false a b = tan-is r s
 either r s false true a b = cotan-is r s

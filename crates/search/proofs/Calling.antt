@@ -12,21 +12,21 @@ use borrow.Author.Tests.{ne-eqb, le-ltb}
 use Rattle.leaves.specs.Reply.{Reply, answered, refused}
 use Rattle.leaves.specs.Number.{plusZero}
 use Rattle.factor.specs.State.{withHeld, storeNeed}
-use Rattle.factor.specs.Room.{Room, load, lay, emptied, zeros}
+use Rattle.factor.specs.Room.{Room, load, lay, emptied}
+use Rattle.leaves.specs.Square.{zeros}
 use Rattle.factor.specs.Solve.{scatter}
-use Rattle.factor.specs.Tests.{firstOf, finiteTest, finiteNumber, notAbove, below, noneZero}
-use Rattle.factor.specs.Calls.{Ended, ended, written, solveTests}
+use Rattle.leaves.specs.Tests.{firstOf, noneZero}
+use Rattle.factor.specs.Tests.{finiteTest, finiteNumber, notAbove, below, solveTests}
+use Rattle.factor.specs.Outcome.{Ended, ended, written}
 use Rattle.factor.specs.declared.state.State.{State}
 use Rattle.factor.specs.declared.state.Held.the-variants as held
-use Rattle.factor.proofs.Refusals.{passed-iff, call-refused, call-worked}
+use Rattle.leaves.proofs.Refusals.{passed-iff, call-refused, call-worked, earlier-passed}
 use Rattle.factor.proofs.Passed.{solve-passed}
-use Rattle.factor.proofs.Measured.{earlier-passed}
-use Rattle.factor.proofs.Triangular.{drop-take}
+use Rattle.leaves.proofs.Grids.{drop-take}
 use Rattle.search.specs.Problem.{Problem, placed}
 use Rattle.search.specs.Search.{Answer, answerOf, problemOf, searchTests, searched, searchCall}
 use Rattle.search.specs.Read.{Ready}
 use Rattle.search.specs.declared.LMParameter.{LMParameter}
-use Rattle.search.specs.declared.trust_region.Found.the-variants as found
 use Rattle.search.proofs.Shapes.{placed-length, scatter-fresh}
 use Rattle.search.proofs.Workings.{order-long, order-below}
 

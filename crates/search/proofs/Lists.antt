@@ -1,19 +1,17 @@
 -- Vectors place by place. Assumes nothing.
 use mathlib.Core.Path.{_≡_, refl, sym, ap, _∙_}
-use mathlib.Core.List.{List, [], _∷_, map}
+use mathlib.Core.List.{List, [], _∷_}
 use Prim.Native.Nat.{ℕ, zero, suc, _+_, _<_, _≤_}
 use native.Mathlib.Nat.{not-suc-le-zero, le-of-suc-le-suc}
 use native.Mathlib.Omega.{arith}
 use lib.ListN.{length, getD, take, drop, set}
 use lib.Seq.{getD-take, length-take-le, take-all}
 use lib.Ieee.{Float, nan, binary64, mul, div}
-use Rattle.leaves.specs.Product.{productAll}
+use Rattle.leaves.specs.Product.{productAll, dividedBy}
 use Rattle.leaves.proofs.Folds.{front}
 use Rattle.factor.specs.Solve.{gather, scatter}
-use Rattle.factor.specs.Gradient.{dividedBy}
-use Rattle.factor.proofs.Fronts.{front-old, map-at}
-use Rattle.factor.proofs.Scalings.{product-length, product-at}
-use Rattle.factor.proofs.Gradients.{divided-length}
+use Rattle.leaves.proofs.Fronts.{front-old, map-at}
+use Rattle.leaves.proofs.Products.{product-length, product-at, divided-length}
 use Rattle.factor.proofs.Solves.{gather-at, gather-length, scatter-turn}
 use Rattle.search.specs.Bounds.{quotients}
 use Rattle.search.specs.Read.{turnedBy}
@@ -25,7 +23,7 @@ turned-length s v ds h = let l = divided-length s v in product-length (dividedBy
 pub turned-at : (s : Float) (v ds : List Float) (i : ℕ) → i < length v → i < length ds → mul binary64 (div binary64 (getD v i nan) s) (getD ds i nan) ≡ getD (turnedBy s v ds) i nan
 turned-at s v ds i h k =
     let d = divided-length s v in
-    ap (λ (x : Float). mul binary64 x (getD ds i nan)) (map-at (λ x. div binary64 x s) v i h) ∙ product-at (dividedBy s v) ds i (omega arith) k
+    ap (λ (x : Float). mul binary64 x (getD ds i nan)) (map-at (λ x. div binary64 x s) v i nan nan h) ∙ product-at (dividedBy s v) ds i (omega arith) k
 
 -- ---- in pivot order
 pub gathered-at : (n : ℕ) (order : List ℕ) (xs : List Float) (k : ℕ) → k < n → n ≤ length order → getD xs (getD order k 0) nan ≡ getD (gather (take n order) xs) k nan

@@ -11,13 +11,14 @@ use borrow.Author.Tests.{eqb-true, not-false}
 use Rattle.leaves.specs.Reply.{Reply, answered, refused}
 use Rattle.leaves.specs.Number.{plusZero, dwarf, isFinite}
 use Rattle.leaves.proofs.Replies.{refused-answered, answered-same}
-use Rattle.factor.specs.Room.{Room, Shaped, diagonal, load, lay, emptied}
-use Rattle.factor.specs.Tests.{Test, firstOf}
-use Rattle.factor.specs.Solve.{gather, zeroSolved}
-use Rattle.factor.specs.Eliminate.{damping, dampedSolved, heads, tails}
-use Rattle.factor.specs.Calls.{Ended, ended, written}
+use Rattle.factor.specs.Room.{Room, Shaped, load, lay, emptied}
+use Rattle.leaves.specs.Square.{diagonal}
+use Rattle.leaves.specs.Tests.{Test, firstOf}
+use Rattle.factor.specs.Solve.{gather, zeroSolved, dampedSolved}
+use Rattle.eliminate.specs.Eliminate.{damping, heads, tails}
+use Rattle.factor.specs.Outcome.{Ended, ended, written}
 use Rattle.factor.specs.declared.state.State.{State}
-use Rattle.factor.proofs.Refusals.{passed-iff}
+use Rattle.leaves.proofs.Refusals.{passed-iff}
 use Rattle.factor.proofs.Solves.{gather-length}
 use Rattle.search.specs.Problem.{Problem, placed, undampedStep, scaledNorm}
 use Rattle.search.specs.Bounds.{band}

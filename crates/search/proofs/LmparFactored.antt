@@ -14,10 +14,11 @@ use borrow.Author.Tests.{le-ltb, leb-true, leb-false}
 use Rattle.leaves.specs.Reply.{answered}
 use Rattle.leaves.specs.Number.{plusZero}
 use Rattle.leaves.specs.Triangle.{columns}
-use Rattle.factor.specs.Room.{Room, diagonal, load}
-use Rattle.factor.specs.Factor.{Reduction, reduction-of, uppers, upperColumn}
-use Rattle.factor.specs.Calls.{factorCall, factoredRoom}
-use Rattle.factor.proofs.Squares.{diagonalFrom-at, diagonal-length}
+use Rattle.factor.specs.Room.{Room, load}
+use Rattle.leaves.specs.Square.{diagonal}
+use Rattle.reduce.specs.Reduction.{Reduction, reduction-of}
+use Rattle.factor.specs.Factoring.{uppers, upperColumn, factorCall, factoredRoom}
+use Rattle.leaves.proofs.Squares.{diagonalFrom-at, diagonal-length}
 use Rattle.factor.proofs.Answered.{answered-room, answered-fits, answered-shaped, answered-state}
 use Rattle.search.proofs.LmparVectors.{Enough}
 

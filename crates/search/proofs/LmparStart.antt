@@ -12,10 +12,10 @@ use Rattle.leaves.specs.Reply.{answered, refused}
 use Rattle.leaves.specs.Number.{plusZero, dwarf, isFinite}
 use Rattle.leaves.specs.Norm.{norm}
 use Rattle.leaves.proofs.Replies.{refused-answered, answered-same}
-use Rattle.factor.specs.Room.{diagonal}
+use Rattle.leaves.specs.Square.{diagonal}
 use Rattle.factor.specs.Solve.{rank, zeroSolved, noZero, nonSingular}
 use Rattle.factor.specs.Held.{forwardUpper}
-use Rattle.factor.proofs.Squares.{diagonal-length}
+use Rattle.leaves.proofs.Squares.{diagonal-length}
 use Rattle.search.specs.Problem.{Problem, placed, undampedStep, scaledStep, scaledNorm, direction, undampedSlope, newton}
 use Rattle.search.specs.Bounds.{tenth, band, lowerBound, gnorm, upperBound, firstLambda}
 use Rattle.search.specs.Run as run

@@ -11,7 +11,7 @@ use Rattle.leaves.specs.Norm.{norm}
 use Rattle.leaves.specs.Root.{rootS}
 use Rattle.leaves.specs.Vector.{scaleAll}
 use Rattle.leaves.proofs.Replies.{refused-answered, answered-same}
-use Rattle.factor.specs.Eliminate.{heads, tails}
+use Rattle.eliminate.specs.Eliminate.{heads, tails}
 use Rattle.search.specs.Problem.{Problem, placed, dampedRows, dampedStep, scaledStep, scaledNorm, direction, dampedSlope, newton}
 use Rattle.search.specs.Bounds.{tenth, thousandth, band, raised}
 use Rattle.search.specs.Run as run

@@ -1,6 +1,6 @@
 -- The numbers that a search goes by, each by its test. Assumes nothing.
-use mathlib.Core.Path.{_≡_, refl, sym, ap, _∙_}
-use mathlib.Core.Bool.{Bool, true, false}
+use mathlib.Core.Path.{_≡_}
+use mathlib.Core.Bool.{true, false}
 use lib.Ieee.{Float, binary64, add, mul, div, eq, ofBits}
 use Rattle.leaves.specs.Number.{dwarf, maxOf, minOf, isNegative}
 use Rattle.search.specs.Bounds.{upperBound, raised}

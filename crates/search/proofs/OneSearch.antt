@@ -8,7 +8,7 @@ use borrow.Fn.World.{ArgsD}
 use borrow.Fn.Kinds.{endedOf}
 use denote.Triple.Clauses.{AtExit}
 use Rattle.leaves.proofs.Replies.{answered-refused, refused-answered, answered-same, refused-same}
-use Rattle.factor.specs.Calls.{Ended, ended}
+use Rattle.factor.specs.Outcome.{Ended, ended}
 use Rattle.factor.specs.declared.state.State.{State}
 use Rattle.search.specs.Read.{foundOf}
 use Rattle.search.specs.declared.LMParameter.{LMParameter}

@@ -1,11 +1,11 @@
 -- How long the definitions' vectors are, and that a damped room is one that a store can hold. Assumes nothing.
 use mathlib.Core.Path.{_≡_, refl, sym, ap, _∙_}
 use mathlib.Core.Bool.{Bool, true, false, cond}
-use mathlib.Core.List.{List, [], _∷_, _++_, map}
+use mathlib.Core.List.{List, [], _∷_}
 use Prim.Native.Nat.{ℕ, zero, suc, _+_, _-_, _<_, _≤_}
 use native.Mathlib.Nat.{not-suc-le-zero, le-of-suc-le-suc}
 use native.Mathlib.Omega.{arith}
-use lib.ListN.{length, getD, take, drop, set, length-set, length-take, length-drop, length-map, length-append, length-replicate, List·getD-map}
+use lib.ListN.{length, getD, take, drop, set, length-set, length-take, length-drop, length-map, length-append, length-replicate}
 use lib.Seq.{length-take-le}
 use lib.Ieee.{Float, nan, binary64, mul, div, neg, eq}
 use Rattle.leaves.specs.Number.{plusZero}
@@ -13,16 +13,17 @@ use Rattle.leaves.specs.Product.{productAll}
 use Rattle.leaves.specs.Vector.{axpyAll}
 use Rattle.leaves.specs.Triangle.{solvePlace, solveDown}
 use Rattle.leaves.proofs.Folds.{axpy-length}
-use Rattle.factor.specs.Room.{Room, Shaped, zeros, diagonal}
+use Rattle.factor.specs.Room.{Room, Shaped}
+use Rattle.leaves.specs.Square.{zeros, diagonal}
 use Rattle.factor.specs.Tests.{isPermutation}
-use Rattle.factor.specs.Solve.{scatter, gather, padded, rank, rRank, zeroSolved}
-use Rattle.factor.specs.Eliminate.{Rows, cons, givens, turned, left, turnedAll, leftAll, rotated, started, onward, eliminated, rowsFrom, damping, tails, backward, dampedSolved}
+use Rattle.factor.specs.Solve.{scatter, gather, padded, rank, rRank, zeroSolved, backward, dampedSolved}
+use Rattle.eliminate.specs.Eliminate.{Rows, cons, givens, turned, left, turnedAll, leftAll, rotated, started, onward, eliminated, rowsFrom, damping, tails}
 use Rattle.factor.specs.Held.{forwardUpper, forwardLower, mulUpper}
 use Rattle.factor.proofs.Orders.{permutation-onto, scatter-at}
 use Rattle.factor.proofs.Solves.{rank-most, gather-length}
-use Rattle.factor.proofs.Scalings.{product-length}
-use Rattle.factor.proofs.Squares.{diagonal-length}
-use Rattle.factor.proofs.Rotations.{turned-length, left-length}
+use Rattle.leaves.proofs.Products.{product-length}
+use Rattle.leaves.proofs.Squares.{diagonal-length}
+use Rattle.eliminate.proofs.Rotations.{turned-length, left-length}
 
 -- ---- two lists that are the same at every place
 same-places : (xs ys : List Float) → length xs ≡ length ys → ((i : ℕ) → i < length xs → getD xs i nan ≡ getD ys i nan) → xs ≡ ys

@@ -2,15 +2,16 @@
 -- that the contracts cite. Assumes nothing.
 use Prim.Native.Nat.{ℕ, suc, _+_, _*_, _^_}
 use mathlib.Core.Path.{_≡_, refl}
-use mathlib.Core.Bool.{true, false}
+use mathlib.Core.Bool.{false}
 use mathlib.Core.List.{List, [], _∷_}
 use lib.ListN.{replicate, length}
-use lib.Ieee.{Float, nan, binary64, round, ofBits}
-use Rattle.leaves.specs.Reply.{Reply, answered, refused}
+use lib.Ieee.{Float, nan, binary64, round}
+use Rattle.leaves.specs.Reply.{answered, refused}
 use Rattle.leaves.specs.Number.{plusZero}
-use Rattle.factor.specs.Calls.{Factored, factorCall, Ended}
+use Rattle.factor.specs.Factoring.{Factored, factorCall}
+use Rattle.factor.specs.Outcome.{Ended}
 use Rattle.factor.specs.Room.{load}
-use Rattle.search.specs.Run.{Run, stopped, last, trial, runOf, Stop, undamped, ten, within, falling, Place, undamped-norm, lower-bound, gradient-norm, trial-lambda, trial-norm, correction}
+use Rattle.search.specs.Run.{Run, stopped, last, trial, runOf, undamped, ten, within, falling, undamped-norm, lower-bound, gradient-norm, trial-lambda, trial-norm, correction}
 use Rattle.search.specs.Run as run
 use Rattle.search.specs.Search.{searchCall, problemOf}
 use Rattle.search.specs.Opened.{opened}

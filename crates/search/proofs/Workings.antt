@@ -1,9 +1,9 @@
 -- What the solves of `factor` in pivot order leave and answer where their tests are passed, as its contracts say. Assumes nothing.
-use mathlib.Core.Path.{_≡_, refl, sym, ap, _∙_}
+use mathlib.Core.Path.{_≡_, sym, ap, _∙_}
 use mathlib.Core.Bool.{Bool, true}
-use mathlib.Core.List.{List, [], _∷_}
+use mathlib.Core.List.{List}
 use Prim.Native.Nat.{ℕ, _<_, _≤_, min}
-use native.Mathlib.Nat.{min-eq-left, min-eq-right, le-refl}
+use native.Mathlib.Nat.{le-refl}
 use native.Mathlib.Omega.{arith}
 use lib.ListN.{length, getD, take}
 use lib.Seq.{take-all, length-take-le}
@@ -13,35 +13,34 @@ use Rattle.leaves.specs.Root.{rootS}
 use Rattle.leaves.specs.Norm.{norm}
 use Rattle.leaves.specs.Vector.{scaleAll}
 use Rattle.leaves.specs.Product.{productAll}
-use Rattle.factor.specs.Room.{Room, Sized, Shaped, load, lay, zeros, emptied}
-use Rattle.factor.specs.Tests.{firstOf, roomTests, orderTest, isPermutation}
+use Rattle.factor.specs.Room.{Room, Sized, Shaped, load, lay, emptied}
+use Rattle.leaves.specs.Square.{zeros}
+use Rattle.factor.specs.Tests.{isPermutation, tested}
 use Rattle.factor.specs.Solve.{zeroSolved, scatter, gather, nonSingular}
-use Rattle.factor.specs.Eliminate.{Rows, damping, heads, tails}
+use Rattle.eliminate.specs.Eliminate.{Rows, damping, heads, tails}
 use Rattle.factor.specs.Held.{mulUpper, heldSolved, heldProduct}
-use Rattle.factor.specs.Calls.{Ended, Told, ended, told, written}
-use Rattle.factor.specs.Calls as calls
-use Rattle.factor.specs.Reader.{Read, read}
-use Rattle.factor.specs.PivotOrder.{tested, lowered, zeroIn, dampedIn, heldZeroIn, heldDampedIn, productIn, fullRank, emptyCall}
+use Rattle.factor.specs.Outcome.{written, Read, read, Left, left}
+use Rattle.factor.specs.Solves as solves
+use Rattle.factor.specs.PivotOrder.{lowered, zeroIn, dampedIn, heldZeroIn, heldDampedIn, productIn, fullRank, emptyIn}
 use Rattle.factor.specs.declared.state.State.{State}
 use Rattle.factor.specs.declared.state.Held.{Held}
 use Rattle.factor.specs.declared.state.Held.the-variants as held
 use Rattle.factor.proofs.Passed.{Ordered, solve-passed, passed-sized}
-use Rattle.factor.proofs.Measured.{earlier-passed}
+use Rattle.factor.proofs.Copied.{tests-passed}
+use Rattle.factor.proofs.Lends.{written-whole}
 use Rattle.factor.proofs.Orders.{permutation-below}
 use Rattle.factor.proofs.Solves.{gather-length}
 use Rattle.factor.proofs.Layouts.{load-shaped}
-use Rattle.factor.proofs.PivotOrders.{written-whole, zero-in-passed, damped-in-passed, held-zero-in-passed, held-damped-in-passed, product-in-passed, full-rank-passed, empty-call-passed}
+use Rattle.factor.proofs.PivotOrders.{zero-in-passed, damped-in-passed, held-zero-in-passed, held-damped-in-passed, product-in-passed, full-rank-passed, empty-in-passed}
 use Rattle.search.specs.Problem.{Problem, placed, undampedStep, dampedRows, dampedStep, scaledStep}
 use Rattle.search.specs.Search.{problemOf}
 use Rattle.search.specs.Bounds.{quotients, gnorm}
 use Rattle.search.specs.Read.{Ready, turnedBy}
 use Rattle.search.proofs.Lists.{by-scaling}
 use Rattle.search.proofs.Shapes.{zero-length, damped-length, upper-length, lower-length, mul-length, gathered-even, Even, placed-scaled}
+use Rattle.leaves.proofs.Insides.{Inside, one-row}
 
 module _ (st : State) (store : List Float) (order : List ℕ) (e : Ready st store order) where
-  abbrev n : ℕ
-  n = st .n
-
   abbrev room : Room
   room = load (st .n) store
 
@@ -66,13 +65,15 @@ module _ (st : State) (store : List Float) (order : List ℕ) (e : Ready st stor
   pub permuted : isPermutation (st .n) order ≡ true
   permuted = ordered .permuted
 
-  room-tests : firstOf (roomTests st (length store) (st .n)) ≡ 0
-  room-tests =
-      let m : min (length order) (st .n) ≡ st .n = min-eq-right order-long in
-      rw m at (earlier-passed (roomTests st (length store) (min (length order) (st .n))) (orderTest st order ∷ []) refl refl e)
+  inside : Inside (st .m) (st .n)
+  inside = ordered .room .sizes
 
-  pub tests-at : (k : ℕ) → k ≡ st .n → tested st store k ≡ 0
-  tests-at k h = rw h room-tests
+  -- the workings' tests, with m among their sizes and without
+  whole-tests : (k : ℕ) → st .n ≤ k → tested (st .m) (st .n) store k ≡ 0
+  whole-tests k h = tests-passed (st .m) (st .n) store k inside sized h
+
+  tests-at : (k : ℕ) → st .n ≤ k → tested 1 (st .n) store k ≡ 0
+  tests-at k h = tests-passed 1 (st .n) store k (one-row inside) sized h
 
   -- ---- the calls that write w and read the store
   module _ (w : List Float) (long : length w ≡ st .n) where
@@ -82,27 +83,27 @@ module _ (st : State) (store : List Float) (order : List ℕ) (e : Ready st stor
     front-is : take (st .n) w ≡ w
     front-is = take-all (st .n) w (omega arith)
 
-    pub zero-numbers : {a : Reply (Unit {0})} {w′ : List Float} → read a w′ ≡ zeroIn st store w → w′ ≡ zeroSolved (st .m) (room .upper) (room .qtb)
+    pub zero-numbers : {a : Reply (Unit {0})} {w′ : List Float} → read a w′ ≡ zeroIn (st .m) (st .n) store w → w′ ≡ zeroSolved (st .m) (room .upper) (room .qtb)
     zero-numbers h =
         let z = shaped in
-        out-is _ (zero-length (st .m) (room .upper) (room .qtb) (z .upper-wide ∙ sym (z .qtb-long)) ∙ z .qtb-long) (h ∙ zero-in-passed st store w (tests-at (length w) long))
+        out-is _ (zero-length (st .m) (room .upper) (room .qtb) (z .upper-wide ∙ sym (z .qtb-long)) ∙ z .qtb-long) (h ∙ zero-in-passed (st .m) (st .n) store w (whole-tests (length w) (omega arith)))
 
-    pub held-zero-numbers : {a : Reply (Unit {0})} {w′ : List Float} → read a w′ ≡ heldZeroIn st store w → w′ ≡ heldSolved held.Zero w room
+    pub held-zero-numbers : {a : Reply (Unit {0})} {w′ : List Float} → read a w′ ≡ heldZeroIn (st .n) store w → w′ ≡ heldSolved held.Zero w room
     unfolding heldSolved
     held-zero-numbers h =
-        out-is _ (rw front-is (upper-length (room .upper) w (shaped .upper-wide ∙ sym long) ∙ long)) (h ∙ held-zero-in-passed st store w (tests-at (length w) long))
+        out-is _ (rw front-is (upper-length (room .upper) w (shaped .upper-wide ∙ sym long) ∙ long)) (h ∙ held-zero-in-passed (st .n) store w (tests-at (length w) (omega arith)))
         ∙ ap (λ (x : List Float). heldSolved held.Zero x room) front-is
 
-    pub held-damped-numbers : {a : Reply (Unit {0})} {w′ : List Float} → read a w′ ≡ heldDampedIn st store w → w′ ≡ heldSolved held.Damped w room
+    pub held-damped-numbers : {a : Reply (Unit {0})} {w′ : List Float} → read a w′ ≡ heldDampedIn (st .n) store w → w′ ≡ heldSolved held.Damped w room
     unfolding heldSolved
     held-damped-numbers h =
         let z = shaped in
-        out-is _ (rw front-is (lower-length (room .ldiag) (room .below) w (z .ldiag-long ∙ sym long) (z .below-wide ∙ sym long) ∙ long)) (h ∙ held-damped-in-passed st store w (tests-at (length w) long))
+        out-is _ (rw front-is (lower-length (room .ldiag) (room .below) w (z .ldiag-long ∙ sym long) (z .below-wide ∙ sym long) ∙ long)) (h ∙ held-damped-in-passed (st .n) store w (tests-at (length w) (omega arith)))
         ∙ ap (λ (x : List Float). heldSolved held.Damped x room) front-is
 
-    pub product-numbers : {a : Reply (Unit {0})} {w′ : List Float} → read a w′ ≡ productIn st store w → w′ ≡ mulUpper (room .qtb) (room .upper)
+    pub product-numbers : {a : Reply (Unit {0})} {w′ : List Float} → read a w′ ≡ productIn (st .n) store w → w′ ≡ mulUpper (room .qtb) (room .upper)
     unfolding heldProduct
-    product-numbers h = out-is _ (mul-length (room .qtb) (room .upper) ∙ shaped .upper-wide) (h ∙ product-in-passed st store w (tests-at (length w) long))
+    product-numbers h = out-is _ (mul-length (room .qtb) (room .upper) ∙ shaped .upper-wide) (h ∙ product-in-passed (st .n) store w (tests-at (length w) (omega arith)))
 
   pub undamped-placed : (diag w′ : List Float) (radius : Float) → w′ ≡ zeroSolved (st .m) (room .upper) (room .qtb)
       → placed (problemOf st order diag radius room) w′ ≡ undampedStep (problemOf st order diag radius room)
@@ -147,30 +148,30 @@ module _ (st : State) (store : List Float) (order : List ℕ) (e : Ready st stor
       worked-by : damping (take (st .n) ds) (room .upper) (room .qtb) ≡ given
       worked-by = ap (λ (x : List Float). damping x (room .upper) (room .qtb)) (take-all (st .n) ds (omega (arith, ds-long)) ∙ es)
 
-      damped-worked : dampedIn st ds store w ≡ ended (answered tt) st (lay (lowered given room)) (written (calls.dampedStep given) w)
+      damped-worked : dampedIn (st .n) ds store w ≡ left (answered tt) (lay (lowered given room)) (written (solves.dampedStep given) w)
       damped-worked =
-          damped-in-passed st ds store w (tests-at (min (length ds) (length w)) (rw (ds-long, wl) (min-eq-left (le-refl (st .n)))))
-          ∙ ap (λ (x : Rows). ended (answered tt) st (lay (lowered x room)) (written (calls.dampedStep x) w)) worked-by
+          damped-in-passed (st .n) ds store w (tests-at (min (length ds) (length w)) (omega (arith, ds-long)))
+          ∙ ap (λ (x : Rows). left (answered tt) (lay (lowered x room)) (written (solves.dampedStep x) w)) worked-by
 
-      module _ {a : Reply (Unit {0})} {s′ w′ : List Float} (h : ended a st s′ w′ ≡ dampedIn st ds store w) where
+      module _ {a : Reply (Unit {0})} {s′ w′ : List Float} (h : left a s′ w′ ≡ dampedIn (st .n) ds store w) where
         pub damped-store : (radius : Float) → s′ ≡ lay (lowered (dampedRows (asked radius) lambda) room)
-        damped-store radius = ap (λ (x : Ended (Unit {0})). x .store) (h ∙ damped-worked) ∙ ap (λ (x : Rows). lay (lowered x room)) (rows-are radius)
+        damped-store radius = ap (λ (x : Left). x .store) (h ∙ damped-worked) ∙ ap (λ (x : Rows). lay (lowered x room)) (rows-are radius)
 
-        pub damped-numbers : w′ ≡ calls.dampedStep given
+        pub damped-numbers : w′ ≡ solves.dampedStep given
         damped-numbers =
-            ap (λ (x : Ended (Unit {0})). x .out) (h ∙ damped-worked)
-            ∙ written-whole (calls.dampedStep given) w (damped-length (heads (given .0)) (tails (given .0)) (given .1) ∙ rows-even .1 ∙ sym wl)
+            ap (λ (x : Left). x .out) (h ∙ damped-worked)
+            ∙ written-whole (solves.dampedStep given) w (damped-length (heads (given .0)) (tails (given .0)) (given .1) ∙ rows-even .1 ∙ sym wl)
 
         pub damped-placed : (radius : Float) → placed (asked radius) w′ ≡ dampedStep (asked radius) lambda
         unfolding dampedStep
-        damped-placed radius = ap (placed (asked radius)) damped-numbers ∙ ap (λ (x : Rows). placed (asked radius) (calls.dampedStep x)) (rows-are radius)
+        damped-placed radius = ap (placed (asked radius)) damped-numbers ∙ ap (λ (x : Rows). placed (asked radius) (solves.dampedStep x)) (rows-are radius)
 
   -- ---- the rank, and the room that a search leaves
-  pub rank-told : {a : Reply Bool} → a ≡ fullRank st store → a ≡ answered (nonSingular (st .m) (st .n) (room .upper))
-  rank-told h = h ∙ full-rank-passed st store room-tests
+  pub rank-told : {a : Reply Bool} → a ≡ fullRank (st .m) (st .n) store → a ≡ answered (nonSingular (st .m) (st .n) (room .upper))
+  rank-told h = h ∙ full-rank-passed (st .m) (st .n) store (whole-tests (st .n) (le-refl (st .n)))
 
-  pub empty-store : {a : Reply (Unit {0})} {s′ : List Float} → told a st s′ ≡ emptyCall st store → s′ ≡ lay (emptied room)
-  empty-store h = ap (λ (x : Told (Unit {0})). x .store) (h ∙ empty-call-passed st store room-tests)
+  pub empty-store : {a : Reply (Unit {0})} {s′ : List Float} → read a s′ ≡ emptyIn (st .n) store → s′ ≡ lay (emptied room)
+  empty-store h = ap (λ (x : Read). x .out) (h ∙ empty-in-passed (st .n) store (tests-at (st .n) (le-refl (st .n))))
 
   -- ---- what the numbers are that are taken from them
   pub slope-is : (h : Held) (s : Float) (v diag w w′ : List Float) {w″ : List Float} {r : Float} → length w ≡ st .n

@@ -10,5 +10,4 @@ pub mod Qrsolv
 pub mod Lmpar
 -- What the theorems on the demands speak of.
 pub mod Ending
-pub mod History
 pub mod Opened

@@ -14,7 +14,7 @@ use Rattle.leaves.specs.Number.{plusZero, absOf, maxOf, minOf}
 use Rattle.leaves.specs.Norm.{norm}
 use Rattle.leaves.specs.Root.{rootS}
 use Rattle.leaves.specs.Vector.{dotOf}
-use Rattle.factor.specs.Room.{diagonal}
+use Rattle.leaves.specs.Square.{diagonal}
 use Rattle.factor.specs.Solve.{padded}
 use Rattle.search.specs.Qrsolv.{Solved, nsingFrom, permuted, qrsolv}
 

@@ -1,15 +1,15 @@
 -- 01, module 7: what a search is asked, and the steps that it tries.
 use Prim.Native.Nat.{ℕ}
-use mathlib.Core.List.{List, [], _∷_, map}
+use mathlib.Core.List.{List, [], map}
 use lib.ListN.{length}
-use lib.Ieee.{Float, binary64, mul, div}
+use lib.Ieee.{Float, binary64, div}
 use Rattle.leaves.specs.Norm.{norm}
 use Rattle.leaves.specs.Root.{rootS}
 use Rattle.leaves.specs.Vector.{scaleAll}
 use Rattle.leaves.specs.Product.{productAll}
-use Rattle.factor.specs.Room.{zeros}
-use Rattle.factor.specs.Solve.{zeroSolved, scatter, gather}
-use Rattle.factor.specs.Eliminate.{Rows, damping, dampedSolved, heads, tails}
+use Rattle.leaves.specs.Square.{zeros}
+use Rattle.factor.specs.Solve.{zeroSolved, scatter, gather, dampedSolved}
+use Rattle.eliminate.specs.Eliminate.{Rows, damping, heads, tails}
 use Rattle.factor.specs.Held.{forwardUpper, forwardLower}
 
 -- R by columns, qt_b and the order of a factored problem of m rows; the scaling and the radius

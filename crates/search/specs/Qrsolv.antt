@@ -13,9 +13,9 @@ use lib.Ieee.{Float, nan, fin, binary64, add, sub, mul, div, neg, le, eq}
 use Rattle.leaves.specs.Number.{plusZero, absOf}
 use Rattle.leaves.specs.Root.{rootS}
 use Rattle.leaves.specs.Vector.{dotOf}
-use Rattle.factor.specs.Room.{zeros}
+use Rattle.leaves.specs.Square.{zeros}
 use Rattle.factor.specs.Solve.{padded, scatter}
-use Rattle.factor.specs.Eliminate.{Rows, cons, onward, rowsFrom, heads, tails}
+use Rattle.eliminate.specs.Eliminate.{Rows, cons, onward, rowsFrom, heads, tails}
 
 -- x, and S as it is left: its diagonal in sdiag, the rest below r's
 pub record Solved : Type 0 where

@@ -6,15 +6,15 @@ use lib.ListN.{length}
 use lib.Ieee.{Float, binary64, sub}
 use Rattle.leaves.specs.Reply.{Reply, answered, refused}
 use Rattle.leaves.specs.Number.{plusZero}
-use Rattle.leaves.specs.Product.{productAll}
-use Rattle.factor.specs.Gradient.{dividedBy}
-use Rattle.factor.specs.Tests.{firstOf}
-use Rattle.factor.specs.Calls.{solveTests}
+use Rattle.leaves.specs.Product.{productAll, dividedBy}
+use Rattle.leaves.specs.Tests.{firstOf}
+use Rattle.factor.specs.Tests.{solveTests}
 use Rattle.factor.specs.declared.state.State.{State}
 use Rattle.search.specs.Problem.{Problem, scaledNorm}
 use Rattle.search.specs.Bounds.{lowerBound, gnorm, upperBound, firstLambda}
 use Rattle.search.specs.Run.{Run, Next, Trial, finite, lower-bound, gradient-norm, trialsFrom}
-use Rattle.search.specs.Search.{Answer, answer}
+use Rattle.search.specs.Search.{Answer, answer, problemOf}
+use Rattle.factor.specs.Room.{load}
 use Rattle.search.specs.declared.LMParameter.{LMParameter}
 use Rattle.search.specs.declared.bounds.Going.{Going}
 use Rattle.search.specs.declared.trust_region.Found.{Found}
@@ -44,6 +44,10 @@ bare s lambda = record { lambda = lambda; step = []; norm = lambda; lower = s .l
 -- the right side of the held solve, by column: a vector over a number, then times the scaling
 abbrev pub turnedBy : Float → List Float → List Float → List Float
 turnedBy s v diag = productAll (dividedBy s v) diag
+
+-- the problem of a store that is lent
+abbrev pub lent : State → List ℕ → List Float → Float → List Float → Problem
+lent st order diag radius store = problemOf st order diag radius (load (st .n) store)
 
 -- a state, a store and an order list that pass the solves' tests, where every other slice has a number for each column
 abbrev pub Ready : State → List Float → List ℕ → Type 0

@@ -1,6 +1,6 @@
 -- 01, module 7, 'Stop rules' and refusal 8: a whole run of the search: its trials, and what ended it.
 use Prim.Native.Nat.{ℕ, zero, suc}
-use mathlib.Core.Bool.{Bool, true, false, cond, _&&_}
+use mathlib.Core.Bool.{Bool, true, false, _&&_}
 use mathlib.Core.List.{List}
 use lib.Ieee.{Float, binary64, add, sub, le, eq}
 use Rattle.leaves.specs.Number.{plusZero, absOf, maxOf, minOf, isFinite, isNegative}

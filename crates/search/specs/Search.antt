@@ -1,6 +1,6 @@
 -- 01, module 7 and 'Refusal numbers': the search as its callers see it: the answer is read off the run.
-use Prim.Native.Nat.{ℕ, zero, suc, min}
-use mathlib.Core.Bool.{Bool, true, false, not}
+use Prim.Native.Nat.{ℕ, suc, min}
+use mathlib.Core.Bool.{true, false, not}
 use mathlib.Core.List.{List, [], _∷_, _++_}
 use lib.Dec.{eqb}
 use lib.ListN.{length, take}
@@ -9,12 +9,13 @@ use Rattle.leaves.specs.Reply.{Reply, answered, refused}
 use Rattle.leaves.specs.Number.{plusZero}
 use Rattle.factor.specs.State.{withHeld}
 use Rattle.factor.specs.Room.{Room, load, lay, emptied}
-use Rattle.factor.specs.Tests.{Test, firstOf, finiteTest, finiteNumber, notAbove, below, noneZero}
-use Rattle.factor.specs.Calls.{Ended, ended, written, solveTests}
+use Rattle.leaves.specs.Tests.{Test, firstOf, noneZero}
+use Rattle.factor.specs.Tests.{finiteTest, finiteNumber, notAbove, below, solveTests}
+use Rattle.factor.specs.Outcome.{Ended, ended, written}
 use Rattle.factor.specs.declared.state.State.{State}
 use Rattle.factor.specs.declared.state.Held.the-variants as held
 use Rattle.search.specs.Problem.{Problem, undampedStep, scaledNorm}
-use Rattle.search.specs.Run.{Run, Trial, stopped, last, trial, runOf}
+use Rattle.search.specs.Run.{Run, stopped, last, trial, runOf}
 use Rattle.search.specs.Run as run
 use Rattle.search.specs.declared.LMParameter.{LMParameter}
 

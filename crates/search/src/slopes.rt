@@ -16,8 +16,7 @@ ghost use Rattle.factor.specs.Held.{heldSolved};
 ghost use Rattle.factor.specs.declared.state.Held.the-variants as held;
 ghost use Rattle.search.specs.Problem.{newton};
 ghost use Rattle.search.specs.Bounds.{gnorm};
-ghost use Rattle.search.specs.Search.{problemOf};
-ghost use Rattle.search.specs.Read.{Ready, turnedBy};
+ghost use Rattle.search.specs.Read.{lent, Ready, turnedBy};
 
 // The norm of what the held solve makes of the scaled step v, whose norm is given: after a zero solve, and after a damped one. They are
 // two, so that each is compiled where it is called.
@@ -35,7 +34,8 @@ fn slope_by_zero(
     ensures { λ r. ⌜ r ≡ normOf (heldSolved held.Zero (gather (take (st .n) (now (order .entry))) (turnedBy norm (now (v .entry)) (now (diag .entry)))) (load (st .n) (now (store .entry)))) ⌝ }
 {
     turn_into(v, norm, order, diag, w);
-    factor::pivot_order::held_zero(st, store, w);
+    let n = st.n;
+    factor::pivot_order::held_zero(n, store, w);
     norm_of(w)
 }
 
@@ -53,7 +53,8 @@ fn slope_by_damped(
     ensures { λ r. ⌜ r ≡ normOf (heldSolved held.Damped (gather (take (st .n) (now (order .entry))) (turnedBy norm (now (v .entry)) (now (diag .entry)))) (load (st .n) (now (store .entry)))) ⌝ }
 {
     turn_into(v, norm, order, diag, w);
-    factor::pivot_order::held_damped(st, store, w);
+    let n = st.n;
+    factor::pivot_order::held_damped(n, store, w);
     norm_of(w)
 }
 
@@ -116,9 +117,10 @@ pub(crate) fn gradient_norm(
 ) -> f64
     requires { ⌜ Ready st (now store) (now order) ⌝ }
     requires { ⌜ (length (now diag) ≡ st .n) × (length (now w) ≡ st .n) ⌝ }
-    ensures { λ r. ⌜ r ≡ gnorm (problemOf st (now (order .entry)) (now (diag .entry)) plusZero (load (st .n) (now (store .entry)))) ⌝ }
+    ensures { λ r. ⌜ r ≡ gnorm (lent st (now (order .entry)) (now (diag .entry)) plusZero (now (store .entry))) ⌝ }
 {
-    factor::pivot_order::product(st, store, w);
+    let n = st.n;
+    factor::pivot_order::product(n, store, w);
     divide_by(w, order, diag);
     norm_of(w)
 }

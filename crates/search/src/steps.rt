@@ -13,8 +13,7 @@ ghost use Rattle.factor.specs.Room.{load, lay, emptied};
 ghost use Rattle.factor.specs.Solve.{nonSingular};
 ghost use Rattle.factor.specs.PivotOrder.{lowered};
 ghost use Rattle.search.specs.Problem.{placed, undampedStep, dampedRows, dampedStep, scaledStep};
-ghost use Rattle.search.specs.Search.{problemOf};
-ghost use Rattle.search.specs.Read.{Ready};
+ghost use Rattle.search.specs.Read.{lent, Ready};
 
 // The undamped step.
 pub(crate) fn undamped(
@@ -28,10 +27,12 @@ pub(crate) fn undamped(
     requires { ⌜ Ready st (now store) (now order) ⌝ }
     requires { ⌜ (length (now diag) ≡ st .n) × (length (now v) ≡ st .n) × (length (now w) ≡ st .n) ⌝ }
     ensures { λ r. ⌜ r ≡ normOf (now (v .exit)) ⌝ }
-    ensures { λ _. ⌜ now (v .exit) ≡ scaledStep (problemOf st (now (order .entry)) (now (diag .entry)) plusZero (load (st .n) (now (store .entry)))) (placed (problemOf st (now (order .entry)) (now (diag .entry)) plusZero (load (st .n) (now (store .entry)))) (now (w .exit))) ⌝ }
-    ensures { λ _. ⌜ placed (problemOf st (now (order .entry)) (now (diag .entry)) plusZero (load (st .n) (now (store .entry)))) (now (w .exit)) ≡ undampedStep (problemOf st (now (order .entry)) (now (diag .entry)) plusZero (load (st .n) (now (store .entry)))) ⌝ }
+    ensures { λ _. ⌜ now (v .exit) ≡ scaledStep (lent st (now (order .entry)) (now (diag .entry)) plusZero (now (store .entry))) (placed (lent st (now (order .entry)) (now (diag .entry)) plusZero (now (store .entry))) (now (w .exit))) ⌝ }
+    ensures { λ _. ⌜ placed (lent st (now (order .entry)) (now (diag .entry)) plusZero (now (store .entry))) (now (w .exit)) ≡ undampedStep (lent st (now (order .entry)) (now (diag .entry)) plusZero (now (store .entry))) ⌝ }
 {
-    factor::pivot_order::zero(st, store, w);
+    let m = st.m;
+    let n = st.n;
+    factor::pivot_order::zero(m, n, store, w);
     place_scaled(order, w, diag, v);
     norm_of(v)
 }
@@ -49,12 +50,13 @@ pub(crate) fn damped(
     requires { ⌜ Ready st (now store) (now order) ⌝ }
     requires { ⌜ (length (now diag) ≡ st .n) × (length (now v) ≡ st .n) × (length (now w) ≡ st .n) ⌝ }
     ensures { λ r. ⌜ r ≡ normOf (now (v .exit)) ⌝ }
-    ensures { λ _. ⌜ now (v .exit) ≡ scaledStep (problemOf st (now (order .entry)) (now (diag .entry)) plusZero (load (st .n) (now (store .entry)))) (placed (problemOf st (now (order .entry)) (now (diag .entry)) plusZero (load (st .n) (now (store .entry)))) (now (w .exit))) ⌝ }
-    ensures { λ _. ⌜ placed (problemOf st (now (order .entry)) (now (diag .entry)) plusZero (load (st .n) (now (store .entry)))) (now (w .exit)) ≡ dampedStep (problemOf st (now (order .entry)) (now (diag .entry)) plusZero (load (st .n) (now (store .entry)))) lambda ⌝ }
-    ensures { λ _. ⌜ now (store .exit) ≡ lay (lowered (dampedRows (problemOf st (now (order .entry)) (now (diag .entry)) plusZero (load (st .n) (now (store .entry)))) lambda) (load (st .n) (now (store .entry)))) ⌝ }
+    ensures { λ _. ⌜ now (v .exit) ≡ scaledStep (lent st (now (order .entry)) (now (diag .entry)) plusZero (now (store .entry))) (placed (lent st (now (order .entry)) (now (diag .entry)) plusZero (now (store .entry))) (now (w .exit))) ⌝ }
+    ensures { λ _. ⌜ placed (lent st (now (order .entry)) (now (diag .entry)) plusZero (now (store .entry))) (now (w .exit)) ≡ dampedStep (lent st (now (order .entry)) (now (diag .entry)) plusZero (now (store .entry))) lambda ⌝ }
+    ensures { λ _. ⌜ now (store .exit) ≡ lay (lowered (dampedRows (lent st (now (order .entry)) (now (diag .entry)) plusZero (now (store .entry))) lambda) (load (st .n) (now (store .entry)))) ⌝ }
 {
     scale_by(leaves::root::sqrt(lambda), order, diag, v);
-    factor::pivot_order::damped(st, store, v, w);
+    let n = st.n;
+    factor::pivot_order::damped(n, store, v, w);
     place_scaled(order, w, diag, v);
     norm_of(v)
 }
@@ -64,7 +66,9 @@ pub(crate) fn full_rank(st: State, store: &[f64], order: &[usize]) -> bool
     requires { ⌜ Ready st (now store) (now order) ⌝ }
     ensures { λ r. ⌜ r ≡ nonSingular (st .m) (st .n) (load (st .n) (now (store .entry)) .upper) ⌝ }
 {
-    match factor::pivot_order::full_rank(st, store) {
+    let m = st.m;
+    let n = st.n;
+    match factor::pivot_order::full_rank(m, n, store) {
         Truth::Is(b) => b,
         Truth::Refused(_) => false,
     }
@@ -75,5 +79,6 @@ pub(crate) fn empty(st: State, store: &mut [f64], order: &[usize])
     requires { ⌜ Ready st (now store) (now order) ⌝ }
     ensures { λ _. ⌜ now (store .exit) ≡ lay (emptied (load (st .n) (now (store .entry)))) ⌝ }
 {
-    factor::pivot_order::empty(st, store);
+    let n = st.n;
+    factor::pivot_order::empty(n, store);
 }

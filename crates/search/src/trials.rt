@@ -21,8 +21,8 @@ ghost use Rattle.factor.specs.Room.{load, emptied};
 ghost use Rattle.search.specs.declared.trust_region.Found.the-variants as found;
 ghost use Rattle.search.specs.Problem.{placed, scaledStep};
 ghost use Rattle.search.specs.Run.{trialsFrom};
-ghost use Rattle.search.specs.Search.{problemOf, concluded};
-ghost use Rattle.search.specs.Read.{Ready, withStep, unanswered, nextOf, damped as dampedRun};
+ghost use Rattle.search.specs.Search.{concluded};
+ghost use Rattle.search.specs.Read.{lent, Ready, withStep, unanswered, nextOf, damped as dampedRun};
 
 // An answer, but for its step.
 fn told(lambda: f64, norm: f64, trials: usize) -> Found
@@ -48,7 +48,7 @@ pub(crate) fn trials(
 ) -> Found
     requires { ⌜ Ready st (now store) (now order) ⌝ }
     requires { ⌜ (length (now diag) ≡ st .n) × (length (now v) ≡ st .n) × (length (now w) ≡ st .n) ⌝ }
-    ensures { λ r. ⌜ withStep r (placed (problemOf st (now (order .entry)) (now (diag .entry)) radius (load (st .n) (now (store .entry)))) (now (w .exit))) ≡ concluded 0 unanswered (trialsFrom (problemOf st (now (order .entry)) (now (diag .entry)) radius (load (st .n) (now (store .entry)))) 9 (nextOf first)) ⌝ }
+    ensures { λ r. ⌜ withStep r (placed (lent st (now (order .entry)) (now (diag .entry)) radius (now (store .entry))) (now (w .exit))) ≡ concluded 0 unanswered (trialsFrom (lent st (now (order .entry)) (now (diag .entry)) radius (now (store .entry))) 9 (nextOf first)) ⌝ }
     ensures { λ _. ⌜ emptied (load (st .n) (now (store .exit))) ≡ emptied (load (st .n) (now (store .entry))) ⌝ }
 {
     let mut s = first;
@@ -96,8 +96,8 @@ pub(crate) fn bounded(
 ) -> Found
     requires { ⌜ Ready st (now store) (now order) ⌝ }
     requires { ⌜ (length (now diag) ≡ st .n) × (length (now v) ≡ st .n) × (length (now w) ≡ st .n) ⌝ }
-    requires { ⌜ (norm ≡ normOf (now v)) × (now v ≡ scaledStep (problemOf st (now order) (now diag) radius (load (st .n) (now store))) (placed (problemOf st (now order) (now diag) radius (load (st .n) (now store))) (now w))) ⌝ }
-    ensures { λ r. ⌜ withStep r (placed (problemOf st (now (order .entry)) (now (diag .entry)) radius (load (st .n) (now (store .entry)))) (now (w .exit))) ≡ concluded 0 unanswered (dampedRun (problemOf st (now (order .entry)) (now (diag .entry)) radius (load (st .n) (now (store .entry)))) lambda (placed (problemOf st (now (order .entry)) (now (diag .entry)) radius (load (st .n) (now (store .entry)))) (now (w .entry)))) ⌝ }
+    requires { ⌜ (norm ≡ normOf (now v)) × (now v ≡ scaledStep (lent st (now order) (now diag) radius (now store)) (placed (lent st (now order) (now diag) radius (now store)) (now w))) ⌝ }
+    ensures { λ r. ⌜ withStep r (placed (lent st (now (order .entry)) (now (diag .entry)) radius (now (store .entry))) (now (w .exit))) ≡ concluded 0 unanswered (dampedRun (lent st (now (order .entry)) (now (diag .entry)) radius (now (store .entry))) lambda (placed (lent st (now (order .entry)) (now (diag .entry)) radius (now (store .entry))) (now (w .entry)))) ⌝ }
     ensures { λ _. ⌜ emptied (load (st .n) (now (store .exit))) ≡ emptied (load (st .n) (now (store .entry))) ⌝ }
 {
     let fp = norm - radius;

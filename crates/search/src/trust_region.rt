@@ -6,19 +6,19 @@ use crate::steps::empty;
 use crate::steps::undamped;
 use crate::trials::bounded;
 use crate::vectors::place;
-use crate::vectors::room16;
 use factor::state::Held;
 use factor::state::State;
 use leaves::number::is_finite;
+use leaves::sizes::room16;
 ghost use mathlib.Core.Path.{_≡_};
 ghost use lib.ListN.{length};
 ghost use Rattle.factor.specs.Room.{load, lay, emptied};
-ghost use Rattle.factor.specs.Calls.{ended};
+ghost use Rattle.factor.specs.Outcome.{ended};
 ghost use Rattle.factor.specs.State.{withHeld};
 ghost use Rattle.factor.specs.declared.state.Held.the-variants.{Nothing};
 ghost use Rattle.search.specs.Problem.{placed};
-ghost use Rattle.search.specs.Search.{problemOf, answerOf, searched, searchCall};
-ghost use Rattle.search.specs.Read.{Ready, foundOf, withStep};
+ghost use Rattle.search.specs.Search.{answerOf, searched, searchCall};
+ghost use Rattle.search.specs.Read.{lent, Ready, foundOf, withStep};
 
 // Lambda, scaled norm and the trials run, or the number of a refusal.
 pub enum Found {
@@ -44,7 +44,7 @@ fn run(
 ) -> Found
     requires { ⌜ Ready st (now store) (now order) ⌝ }
     requires { ⌜ (length (now diag) ≡ st .n) × (length (now v) ≡ st .n) × (length (now w) ≡ st .n) ⌝ }
-    ensures { λ r. ⌜ withStep r (placed (problemOf st (now (order .entry)) (now (diag .entry)) radius (load (st .n) (now (store .entry)))) (now (w .exit))) ≡ answerOf (problemOf st (now (order .entry)) (now (diag .entry)) radius (load (st .n) (now (store .entry)))) lambda ⌝ }
+    ensures { λ r. ⌜ withStep r (placed (lent st (now (order .entry)) (now (diag .entry)) radius (now (store .entry))) (now (w .exit))) ≡ answerOf (lent st (now (order .entry)) (now (diag .entry)) radius (now (store .entry))) lambda ⌝ }
     ensures { λ _. ⌜ emptied (load (st .n) (now (store .exit))) ≡ emptied (load (st .n) (now (store .entry))) ⌝ }
 {
     let norm = undamped(st, store, order, diag, v, w);
@@ -76,7 +76,7 @@ fn run_into(
     requires { ⌜ Ready st (now store) (now order) ⌝ }
     requires { ⌜ (length (now diag) ≡ st .n) × (length (now v) ≡ st .n) × (length (now w) ≡ st .n) ⌝ }
     requires { ⌜ length (now out) ≡ st .n ⌝ }
-    ensures { λ r. ⌜ ended (foundOf r) (withHeld st Nothing) (now (store .exit)) (now (out .exit)) ≡ searched st (lay (emptied (load (st .n) (now (store .entry))))) (now (out .entry)) (answerOf (problemOf st (now (order .entry)) (now (diag .entry)) radius (load (st .n) (now (store .entry)))) lambda) ⌝ }
+    ensures { λ r. ⌜ ended (foundOf r) (withHeld st Nothing) (now (store .exit)) (now (out .exit)) ≡ searched st (lay (emptied (load (st .n) (now (store .entry))))) (now (out .entry)) (answerOf (lent st (now (order .entry)) (now (diag .entry)) radius (now (store .entry))) lambda) ⌝ }
 {
     let found = run(st, store, order, diag, radius, lambda, v, w);
     empty(st, store, order);
@@ -89,6 +89,16 @@ fn run_into(
     }
 }
 
+// Searches for lambda and the step (`determine_lambda_and_parameter_update`, MINPACK's LMPAR).
+//
+// st: a state of the problem. store: R and qt_b are read; on exit strict lower part, l_diag and work are +0. order: read. diag: the scaling,
+// its first n, each at its column, read. radius: the step bound of the scaled step. lambda: where the search starts. out: on exit its first n
+// are the step, each entry at its column.
+// Answers lambda, the norm of the scaled step and the number of trials, which are damped solves. Hands back the state with nothing held.
+// Refused 5 for an empty state, 2 for its sizes, 3 for a slice that is too short, 4 for an order list that is none, 6 for a scaling, radius
+// or lambda that is not finite, 7 for a radius not above 0, a lambda below 0 or a scaling entry of zero: all as it was. Refused 8 at the first
+// number that is not finite of: undamped scaled norm, lower bound, gnorm, a trial's lambda, its scaled norm, a correction: out as it was, the
+// store and the state as after an answer.
 pub fn determine_lambda_and_parameter_update(
     st: State,
     store: &mut [f64],

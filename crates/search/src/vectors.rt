@@ -1,8 +1,7 @@
 // Document 01, module 7: what a search does with vectors of a number for each column.
 ghost use mathlib.Core.Path.{_≡_};
 ghost use Prim.Native.Nat.{ℕ, _≤_, _<_};
-ghost use lib.ListN.{length, getD, take, replicate};
-ghost use Rattle.leaves.specs.Number.{plusZero};
+ghost use lib.ListN.{length, getD, take};
 ghost use Rattle.leaves.specs.Norm.{norm};
 ghost use Rattle.leaves.specs.Vector.{scaleAll};
 ghost use Rattle.leaves.specs.Product.{productAll};
@@ -10,18 +9,12 @@ ghost use Rattle.factor.specs.Solve.{gather, scatter};
 ghost use Rattle.search.specs.Bounds.{quotients};
 ghost use Rattle.search.specs.Read.{turnedBy};
 
-// Room for a number of each column.
-pub(crate) fn room16() -> [f64; 16]
-    ensures { λ r. ⌜ r ≡ replicate 16 plusZero ⌝ }
-{
-    [0.0; 16]
-}
-
 pub(crate) fn norm_of(v: &[f64]) -> f64
     requires { ⌜ length (now v) ≤ 128 ⌝ }
     ensures { λ r. ⌜ r ≡ norm (now (v .entry)) ⌝ }
 {
-    leaves::norm::norm(v)
+    let s = leaves::norm::enorm(v);
+    s.value
 }
 
 // Each place over the scaling of the column that stands there.

@@ -2,7 +2,7 @@
 use Prim.Native.Nat.{ℕ, _<_, _≤_}
 use mathlib.Core.Path.{_≡_, refl, ap, subst, _∙_}
 use mathlib.Core.Bool.{Bool, true, false}
-use mathlib.Core.List.{List, [], _∷_}
+use mathlib.Core.List.{List, _∷_}
 use native.Mathlib.Omega.{arith}
 use borrow.Author.Tests.{ne-eqb, le-ltb, eqb-true}
 use lib.Dec.{eqb, ltb}
@@ -10,14 +10,15 @@ use lib.ListN.{length, replicate}
 use lib.Ieee.{Float}
 use Rattle.leaves.specs.Reply.{Reply, answered, refused}
 use Rattle.leaves.specs.Number.{plusZero}
-use Rattle.factor.specs.State.{outside}
-use Rattle.factor.specs.Room.{zeros}
-use Rattle.factor.specs.Tests.{Test, firstOf}
-use Rattle.factor.specs.Calls.{Ended, determinedCall, factorCall}
-use Rattle.factor.specs.Rescale.{Scaled, first, later, scalingCall}
+use Rattle.leaves.specs.Tests.{outside, Test, firstOf}
+use Rattle.leaves.specs.Square.{zeros}
+use Rattle.factor.specs.Outcome.{Ended}
+use Rattle.measures.specs.Measures.{determinedCall}
+use Rattle.factor.specs.Factoring.{factorCall}
+use Rattle.measures.specs.Rescale.{Scaled, first, later, scalingCall}
 use Rattle.factor.specs.declared.state.State.{State}
-use Rattle.factor.specs.declared.scaling.Mode.the-variants as mode
-use Rattle.factor.proofs.Passed.{inside}
+use Rattle.measures.specs.declared.scaling.Mode.the-variants as mode
+use Rattle.leaves.proofs.Insides.{inside}
 use Rattle.factor.proofs.Answered.{answered-state}
 use Rattle.search.specs.declared.LMParameter.{LMParameter}
 use Rattle.sheet.specs.Sheet.{Task, search, start, Job, headOf, jobOf}

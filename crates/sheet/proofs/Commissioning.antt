@@ -10,7 +10,11 @@ use Rattle.leaves.specs.Reply.{Reply, answered, refused}
 use Rattle.leaves.specs.Number.{plusZero}
 use Rattle.leaves.specs.Root.{rootS}
 use Rattle.leaves.specs.Norm.{norm}
-use Rattle.factor.specs.Calls.{Factored, factorCall, zeroCall, gradientCall, determinedCall, solveCall, Ended}
+use Rattle.factor.specs.Factoring.{Factored, factorCall}
+use Rattle.factor.specs.Solves.{zeroCall}
+use Rattle.measures.specs.Measures.{gradientCall, determinedCall}
+use Rattle.factor.specs.HeldCalls.{solveCall}
+use Rattle.factor.specs.Outcome.{Ended}
 use Rattle.search.specs.Search.{searchCall}
 use Rattle.search.specs.declared.LMParameter.{LMParameter}
 use Rattle.sheet.specs.Lines.{sheetText}

@@ -7,8 +7,8 @@ use borrow.Author.Tests.{le-leb}
 use lib.ListN.{length, take, length-append, length-take}
 use lib.Ieee.{Float}
 use Rattle.leaves.specs.Reply.{Reply, answered, refused}
-use Rattle.factor.specs.Room.{zeros}
-use Rattle.factor.specs.Tests.{firstOf}
+use Rattle.leaves.specs.Square.{zeros}
+use Rattle.leaves.specs.Tests.{firstOf}
 use Rattle.text.specs.Put.{decimalOf}
 use Rattle.sheet.specs.Fit.{Fit, searched, started, sheetCall}
 use Rattle.sheet.specs.Lines.{radiusWord, lambdaWord, normWord, trialsWord, determinedWord, stepWord, refusedWord, line, double, stepLines, countLines, fittedLines, linesOf, sheetText, linesTests, printed, textCall}

@@ -1,8 +1,6 @@
 -- The laws of `sheet` and its theorems.
 pub mod Packed
 pub mod Testing
-pub mod Seeking
-pub mod Jobs
 pub mod Texts
 pub mod Printing
 pub mod OneSheet

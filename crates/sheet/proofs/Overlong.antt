@@ -10,11 +10,10 @@ use lib.ListN.{length, take}
 use lib.Seq.{take-take, length-take-le}
 use lib.Ieee.{Float}
 use Rattle.leaves.specs.Reply.{refused}
-use Rattle.factor.specs.State.{outside}
-use Rattle.factor.specs.Room.{zeros}
-use Rattle.factor.specs.Tests.{Test, firstOf}
-use Rattle.factor.proofs.Passed.{inside, jacobian-small}
-use Rattle.factor.proofs.Refusals.{test-passed, call-refused}
+use Rattle.leaves.specs.Tests.{outside, Test, firstOf}
+use Rattle.leaves.specs.Square.{zeros}
+use Rattle.leaves.proofs.Insides.{inside, jacobian-small}
+use Rattle.leaves.proofs.Refusals.{test-passed, call-refused}
 use Rattle.sheet.specs.Sheet.{headOf, lasts, countOf, lengthOf, jobOf}
 use Rattle.sheet.specs.Tests.{unknown, numberTests, numbersOf, sheetTests}
 use Rattle.sheet.specs.Fit.{Fit, Told, told, worked, sheetCall}

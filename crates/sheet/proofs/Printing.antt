@@ -3,7 +3,7 @@ use Prim.Native.Nat.{ℕ, _+_, _≤_}
 use mathlib.Core.Path.{_≡_, refl, sym, ap, _∙_}
 use mathlib.Core.Logic.{_≢_}
 use mathlib.Core.Bool.{Bool, true, false, _||_, true≢false}
-use mathlib.Core.List.{List, [], _++_}
+use mathlib.Core.List.{List, _++_}
 use native.Mathlib.Omega.{arith}
 use borrow.Author.Tests.{ne-eqb, ltb-false}
 use lib.Dec.{eqb, ltb}
@@ -11,9 +11,9 @@ use lib.ListN.{length, take, drop}
 use lib.Seq.{sets-eq, take-append-seam}
 use lib.Ieee.{Float}
 use Rattle.leaves.specs.Reply.{Reply, refused}
-use Rattle.factor.specs.Room.{zeros}
-use Rattle.factor.specs.Tests.{firstOf}
-use Rattle.factor.proofs.Refusals.{NoneHold, passed-iff, call-refused, call-worked}
+use Rattle.leaves.specs.Square.{zeros}
+use Rattle.leaves.specs.Tests.{firstOf}
+use Rattle.leaves.proofs.Refusals.{NoneHold, passed-iff, call-refused, call-worked}
 use Rattle.sheet.specs.Fit.{Fit, Told, told, sheetCall}
 use Rattle.sheet.specs.Lines.{linesOf, sheetText, columnTests, linesTests, printed, linesCall, textCall}
 use Rattle.sheet.specs.Inner.{put}

@@ -10,8 +10,8 @@ use borrow.Author.Tests.{ne-eqb}
 use lib.ListN.{length, replicate}
 use lib.Ieee.{Float}
 use Rattle.leaves.specs.Reply.{refused}
-use Rattle.factor.specs.Tests.{firstOf}
-use Rattle.factor.proofs.Refusals.{NoneHold, RefusedBy, numbered, refused-iff, passed-iff, call-refused, call-worked}
+use Rattle.leaves.specs.Tests.{firstOf}
+use Rattle.leaves.proofs.Refusals.{NoneHold, RefusedBy, numbered, refused-iff, passed-iff, call-refused, call-worked}
 use Rattle.sheet.specs.Sheet.{Task, search, start, headOf, jobOf}
 use Rattle.sheet.specs.Tests.{taskTests, numbersOf, sheetTests}
 use Rattle.sheet.specs.Fit.{Fit, Told, told, worked, sheetCall}

@@ -11,13 +11,13 @@ use Rattle.leaves.specs.Reply.{answered, refused}
 use Rattle.leaves.specs.Norm.{norm}
 use Rattle.leaves.specs.Product.{productAll}
 use Rattle.factor.specs.Room.{load, lay, rested}
-use Rattle.factor.specs.Scaling.{firstScaling, startBy, usable}
-use Rattle.factor.specs.Tests.{firstOf, allFinite}
-use Rattle.factor.specs.Calls.{Ended, ended, written}
-use Rattle.factor.specs.Rescale.{Scaled, first, later, orRefused, scalingTests, rescaled, scalingCall}
+use Rattle.measures.specs.Scaling.{firstScaling, startBy, usable}
+use Rattle.leaves.specs.Tests.{firstOf, allFinite}
+use Rattle.factor.specs.Outcome.{Ended, ended, written}
+use Rattle.measures.specs.Rescale.{Scaled, first, later, orRefused, scalingTests, rescaled, scalingCall}
 use Rattle.factor.specs.declared.state.State.{State}
-use Rattle.factor.specs.declared.scaling.Start.{Start}
-use Rattle.factor.specs.declared.scaling.Mode.the-variants as mode
+use Rattle.measures.specs.declared.scaling.Start.{Start}
+use Rattle.measures.specs.declared.scaling.Mode.the-variants as mode
 
 never : (b : Bool) (t : Start) (new old : List Float) → orRefused b (first t) new old .0 ≡ answered later → ⊥
 never true t new old e = let z : _≡_ {A = ℕ} 0 1 = cc in omega arith

@@ -3,19 +3,17 @@ use Prim.Native.Nat.{ℕ, _+_, _*_, _-_, _<_, _≤_}
 use mathlib.Core.Path.{_≡_, sym, ap, _∙_}
 use mathlib.Core.Logic.{_≢_}
 use mathlib.Core.Bool.{Bool, true, false, not, _||_}
-use mathlib.Core.List.{List, []}
+use mathlib.Core.List.{List}
 use borrow.Author.Tests.{eq-eqb, ne-eqb, lt-ltb, le-ltb}
 use lib.Dec.{eqb, ltb}
 use lib.ListN.{length, take, drop, getD, length-drop}
-use lib.Seq.{drop-drop, take-length}
+use lib.Seq.{drop-drop}
 use borrow.Rule.Slice.PartAt.{part-to-end}
 use lib.Ieee.{Float, nan}
 use native.Mathlib.Omega.{arith}
-use Rattle.factor.specs.State.{outside}
-use Rattle.factor.specs.Tests.{firstOf, allFinite}
-use Rattle.factor.proofs.Passed.{inside, jacobian-small}
-use Rattle.factor.proofs.Measured.{past}
-use Rattle.factor.proofs.Refusals.{test-met}
+use Rattle.leaves.specs.Tests.{outside, firstOf, allFinite}
+use Rattle.leaves.proofs.Insides.{inside, jacobian-small}
+use Rattle.leaves.proofs.Refusals.{past, test-met}
 use Rattle.sheet.specs.Sheet.{Task, search, start, lasts, countOf, lengthOf, taskOf, jobOf}
 use Rattle.sheet.specs.Tests.{taskTests, numberTests}
 use Rattle.sheet.specs.declared.head.Head.{Head}
@@ -65,9 +63,9 @@ pub start-ends : (call n : ℕ) (xs : List Float) → n + lasts call ≤ length 
 start-ends call n xs h e = rw (ne-eqb _ _ e) at h
 
 -- ---- 6, then 7
-module _ (h : Head) (xs : List Float) (e : length xs ≡ countOf h) (o : outside (h .m) (h .n) ≡ false) {b : Bool} (f : b ≡ allFinite (take (length xs) xs)) where
+module _ (h : Head) (xs : List Float) (e : length xs ≡ countOf h) (o : outside (h .m) (h .n) ≡ false) {b : Bool} (f : b ≡ allFinite xs) where
   finite-is : not (allFinite xs) ≡ not b
-  finite-is = ap not (ap allFinite (sym (take-length xs)) ∙ sym f)
+  finite-is = ap not (sym f)
 
   pub numbers-bad : not b ≡ true → 6 ≡ firstOf (numberTests h xs)
   numbers-bad t = sym (test-met _ _ (finite-is ∙ t))

@@ -2,18 +2,20 @@
 -- sheet's.
 use Prim.Native.Nat.{ℕ}
 use mathlib.Core.Bool.{true, false}
-use mathlib.Core.List.{List, []}
+use mathlib.Core.List.{List}
 use lib.Dec.{eqb}
 use lib.ListN.{length, replicate}
 use lib.Ieee.{Float}
 use Rattle.leaves.specs.Reply.{Reply, answered, refused}
 use Rattle.leaves.specs.Number.{plusZero}
-use Rattle.factor.specs.Room.{zeros}
-use Rattle.factor.specs.Tests.{firstOf}
-use Rattle.factor.specs.Calls.{Ended, factorCall, determinedCall}
-use Rattle.factor.specs.Rescale.{Scaled, first, later, scalingCall}
+use Rattle.leaves.specs.Square.{zeros}
+use Rattle.leaves.specs.Tests.{firstOf}
+use Rattle.factor.specs.Outcome.{Ended}
+use Rattle.factor.specs.Factoring.{factorCall}
+use Rattle.measures.specs.Measures.{determinedCall}
+use Rattle.measures.specs.Rescale.{Scaled, first, later, scalingCall}
 use Rattle.factor.specs.declared.state.State.{State}
-use Rattle.factor.specs.declared.scaling.Mode.the-variants as mode
+use Rattle.measures.specs.declared.scaling.Mode.the-variants as mode
 use Rattle.search.specs.Search.{searchCall}
 use Rattle.search.specs.declared.LMParameter.{LMParameter}
 use Rattle.sheet.specs.Sheet.{Task, search, start, Job, headOf, jobOf}

@@ -7,7 +7,7 @@ use lib.ListN.{length}
 use lib.Seq.{sets}
 use lib.Ieee.{Float}
 use Rattle.leaves.specs.Reply.{refused}
-use Rattle.factor.specs.Tests.{firstOf}
+use Rattle.leaves.specs.Tests.{firstOf}
 use Rattle.sheet.specs.Sheet.{jobOf}
 use Rattle.sheet.specs.Tests.{numberTests, numbersOf}
 use Rattle.sheet.specs.Fit.{Fit, Told, told, worked}

@@ -6,8 +6,8 @@ use lib.Dec.{eqb, ltb, leb}
 use lib.ListN.{length, take, drop}
 use lib.Ieee.{Float, binary64, toBits}
 use Rattle.leaves.specs.Reply.{Reply, answered, refused}
-use Rattle.factor.specs.Room.{zeros}
-use Rattle.factor.specs.Tests.{Test, firstOf}
+use Rattle.leaves.specs.Square.{zeros}
+use Rattle.leaves.specs.Tests.{Test, firstOf}
 use Rattle.text.specs.Put.{digits, decimalOf}
 use Rattle.sheet.specs.Fit.{Fit, searched, started, sheetCall}
 use Rattle.sheet.specs.declared.answer.Fitted.{Fitted}

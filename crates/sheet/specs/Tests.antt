@@ -5,8 +5,8 @@ use mathlib.Core.List.{List, [], _∷_, _++_}
 use lib.Dec.{eqb, ltb}
 use lib.ListN.{length, drop}
 use lib.Ieee.{Float}
-use Rattle.factor.specs.State.{outside}
-use Rattle.factor.specs.Tests.{Test, allFinite, noneZero, notAbove, below}
+use Rattle.leaves.specs.Tests.{outside, Test, allFinite, noneZero}
+use Rattle.factor.specs.Tests.{notAbove, below}
 use Rattle.sheet.specs.Sheet.{Task, search, start, headOf, doubles, countOf, lengthOf, jobOf}
 use Rattle.sheet.specs.declared.head.Head.{Head}
 

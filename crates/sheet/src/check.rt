@@ -1,59 +1,15 @@
 // Document 01, 'Refusal numbers, tested in this order': the tests of a sheet.
 use crate::head::Head;
+use leaves::sizes::outside;
+use leaves::vector::all_finite;
+use leaves::vector::none_zero;
 ghost use mathlib.Core.Path.{_≡_};
 ghost use mathlib.Core.Bool.{false};
 ghost use Prim.Native.Nat.{_+_, _≤_};
 ghost use lib.ListN.{length, take};
-ghost use Rattle.factor.specs.State.{outside};
-ghost use Rattle.factor.specs.Tests.{firstOf, allFinite, noneZero};
+ghost use Rattle.leaves.specs.Tests.{firstOf, outside as outsideOf};
 ghost use Rattle.sheet.specs.Sheet.{search, lasts, countOf, taskOf};
 ghost use Rattle.sheet.specs.Tests.{unknown, taskTests, fieldTests, numberTests};
-
-// Test 6. No early exit: without one a number costs less than half.
-fn all_finite(v: &[f64], n: usize) -> bool
-    requires { ⌜ n ≤ length (now v) ⌝ }
-    ensures { λ r. ⌜ r ≡ allFinite (take n (now (v .entry))) ⌝ }
-{
-    let top = f64::from_bits(0x7ff0_0000_0000_0000);
-    let mut bad = false;
-    let mut i = 0;
-    while i < n {
-        let x = v[i];
-        bad = bad | !((-top < x) & (x < top));
-        i += 1;
-    }
-    !bad
-}
-
-// Test 7 of a scaling.
-fn none_zero(v: &[f64], n: usize) -> bool
-    requires { ⌜ n ≤ length (now v) ⌝ }
-    ensures { λ r. ⌜ r ≡ noneZero (take n (now (v .entry))) ⌝ }
-{
-    let mut zero = false;
-    let mut i = 0;
-    while i < n {
-        zero = zero | (v[i] == 0.0);
-        i += 1;
-    }
-    !zero
-}
-
-// Test 2.
-fn outside_sizes(m: usize, n: usize) -> bool
-    ensures { λ r. ⌜ r ≡ outside m n ⌝ }
-{
-    if m == 0 {
-        return true;
-    }
-    if 128 < m {
-        return true;
-    }
-    if n == 0 {
-        return true;
-    }
-    16 < n
-}
 
 fn unknown_call(h: Head) -> bool
     ensures { λ r. ⌜ r ≡ unknown h ⌝ }
@@ -71,7 +27,7 @@ fn unknown_call(h: Head) -> bool
 
 // How many numbers stand behind the head.
 pub(crate) fn count_of(h: Head) -> usize
-    requires { ⌜ outside (h .m) (h .n) ≡ false ⌝ }
+    requires { ⌜ outsideOf (h .m) (h .n) ≡ false ⌝ }
     ensures { λ r. ⌜ (r ≡ countOf h) × (r ≤ 2194) ⌝ }
 {
     let m = h.m;
@@ -92,7 +48,7 @@ pub(crate) fn check_fields(h: Head, len: usize, room: usize) -> u8
     if unknown_call(h) {
         return 1;
     }
-    if outside_sizes(m, n) {
+    if outside(m, n) {
         return 2;
     }
     if len != 3 + 8 * count_of(h) {
@@ -115,7 +71,7 @@ fn check_search(diag: &[f64], n: usize, radius: f64, lambda: f64) -> u8
     if lambda < 0.0 {
         return 7;
     }
-    if none_zero(diag, n) { 0 } else { 7 }
+    if none_zero(&diag[..n]) { 0 } else { 7 }
 }
 
 // Test 7, of what stands behind the residuals.
@@ -132,12 +88,12 @@ fn check_task(call: u8, n: usize, rest: &[f64]) -> u8
 // Tests 6 and 7.
 pub(crate) fn check_numbers(h: Head, xs: &[f64]) -> u8
     requires { ⌜ length (now xs) ≡ countOf h ⌝ }
-    requires { ⌜ outside (h .m) (h .n) ≡ false ⌝ }
+    requires { ⌜ outsideOf (h .m) (h .n) ≡ false ⌝ }
     ensures { λ r. ⌜ r ≡ firstOf (numberTests h (now (xs .entry))) ⌝ }
 {
     let m = h.m;
     let n = h.n;
-    if !all_finite(xs, xs.len()) {
+    if !all_finite(xs) {
         return 6;
     }
     let a = m * n + m;

@@ -9,15 +9,14 @@ use crate::number::doubles_into;
 use crate::room;
 use crate::seek::search;
 use crate::seek::start;
-use factor::factoring::pivoted_qr;
+use factor::pivoted_qr::pivoted_qr;
 use factor::state::State;
 use leaves::reply::Done;
 ghost use mathlib.Core.Path.{_≡_};
 ghost use mathlib.Core.Bool.{false};
 ghost use Prim.Native.Nat.{_+_, _≤_};
 ghost use lib.ListN.{length};
-ghost use Rattle.factor.specs.State.{outside};
-ghost use Rattle.factor.specs.Tests.{firstOf};
+ghost use Rattle.leaves.specs.Tests.{outside, firstOf};
 ghost use Rattle.sheet.specs.Sheet.{countOf, lengthOf, lasts, taskOf, jobOf};
 ghost use Rattle.sheet.specs.Tests.{fieldTests};
 ghost use Rattle.sheet.specs.Fit.{answerOf, told, taskFrom, workedIn, worked, sheetCall};
@@ -105,7 +104,12 @@ fn work_fields(h: Head, sheet: &[u8], step: &mut [f64]) -> Answer
     work_numbers(h, sheet, &mut xs[..k], step)
 }
 
-// The step goes to the first n of `step`, and only where there is an answer.
+// Works a job sheet: document 01's call 1 or call 2.
+//
+// sheet: its bytes, only read. step: on exit its first n are the step, each entry at its column, and only where there is an answer.
+// Answers the fit: radius (call 2), lambda, scaled norm, trials, determined, and how many columns there are.
+// Refused 1, 2, 3, 6, 7 by the sheet's own tests, in this order, over all its fields (3 also where step has under n places), then 8 by the
+// working; step is then as it was.
 pub fn fit(sheet: &[u8], step: &mut [f64]) -> Answer
     ensures { λ r. ⌜ told (answerOf r) (now (step .exit)) ≡ sheetCall (now (sheet .entry)) (now (step .entry)) ⌝ }
 {

@@ -13,7 +13,7 @@ ghost use mathlib.Core.Path.{_≡_};
 ghost use Prim.Native.Nat.{_+_, _≤_};
 ghost use lib.ListN.{length};
 ghost use Rattle.leaves.specs.Reply.{placeOf};
-ghost use Rattle.factor.specs.Tests.{firstOf};
+ghost use Rattle.leaves.specs.Tests.{firstOf};
 ghost use Rattle.sheet.specs.Fit.{answerOf};
 ghost use Rattle.sheet.specs.Lines.{fittedLines, linesOf, columnTests, linesTests, printed, linesCall, textCall};
 ghost use Rattle.sheet.specs.Inner.{put};
@@ -89,7 +89,11 @@ fn print(source: &[u8], text: &mut [u8]) -> Place
     Place::At(n)
 }
 
-// How many bytes were written, from the start of `text`.
+// An answer as the lines that `fitstep` prints.
+//
+// a: the answer. step: the step that goes with it, only read. text: on exit the lines, from its start; what follows them is as it was.
+// Answers how many bytes were written.
+// Refused 2 where the answer's columns are not 1 to 16, 3 where step or text is too short; text is then as it was.
 pub fn write_lines(a: Answer, step: &[f64], text: &mut [u8]) -> Place
     ensures { λ r. ⌜ (placeOf r, now (text .exit)) ≡ linesCall (answerOf a) (now (step .entry)) (now (text .entry)) ⌝ }
 {
@@ -102,7 +106,11 @@ pub fn write_lines(a: Answer, step: &[f64], text: &mut [u8]) -> Place
     print(&room[..n], text)
 }
 
-// What `fitstep` prints for a sheet.
+// What `fitstep` prints for a sheet: both in one.
+//
+// sheet: its bytes, only read. text: on exit the lines, from its start; what follows them is as it was.
+// Answers how many bytes were written; a refused sheet has its line too.
+// Refused 3 where text is too short (1,024 bytes always suffice); text is then as it was.
 pub fn fit_lines(sheet: &[u8], text: &mut [u8]) -> Place
     ensures { λ r. ⌜ (placeOf r, now (text .exit)) ≡ textCall (now (sheet .entry)) (now (text .entry)) ⌝ }
 {

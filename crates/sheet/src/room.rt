@@ -1,7 +1,7 @@
 // Rooms for the largest problem, 128 rows and 16 columns, all zero.
 ghost use mathlib.Core.Path.{_≡_};
 ghost use lib.ListN.{length, replicate};
-ghost use Rattle.factor.specs.Room.{zeros};
+ghost use Rattle.leaves.specs.Square.{zeros};
 
 // The numbers of a sheet.
 pub(crate) fn numbers() -> [f64; 2194]

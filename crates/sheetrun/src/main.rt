@@ -7,7 +7,6 @@ mod play;
 
 fn main() {
     let mut line = feed::line();
-    let mut sheet = play::sheet();
     let mut text = feed::text();
-    feed::all(&mut line, &mut sheet, &mut text);
+    feed::all(&mut line, &mut text);
 }

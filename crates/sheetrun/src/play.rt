@@ -1,15 +1,15 @@
 // One line: its sheet out of hex, and what is printed for it. Each function that prints answers the place behind what it wrote.
 use leaves::reply::Place;
+use lines::part::within;
 use sheet::lines::fit_lines;
 use text::digit::Digit;
 use text::digit::value;
 use text::put::bytes;
 ghost use mathlib.Core.Path.{_≡_};
 ghost use lib.ListN.{length};
-ghost use Rattle.text.specs.Part.{Part};
 
 // More than the longest sheet.
-pub fn sheet() -> [u8; 32768] {
+fn sheet() -> [u8; 32768] {
     [0; 32768]
 }
 
@@ -19,39 +19,31 @@ fn lines_room() -> [u8; 1024]
     [0; 1024]
 }
 
-enum Bytes {
-    Are(usize),
+// Two hex digits.
+enum Hex {
+    Is(u8),
     Not,
 }
 
-pub fn within(s: &[u8], n: usize) -> usize
-    ensures { λ r. ⌜ Part r (now (s .entry)) ⌝ }
-{
-    if n < s.len() { n } else { s.len() }
-}
-
-pub fn keep(s: &mut [u8], i: usize, b: u8) {
-    if i < s.len() {
-        s[i] = b;
-    }
+enum Bytes {
+    Are(usize),
+    Not,
 }
 
 fn joined(high: u64, low: u64) -> u8 {
     (high % 16 * 16 + low % 16) as u8
 }
 
-// False where either is no hex digit.
-fn pair(a: u8, b: u8, i: usize, out: &mut [u8]) -> bool {
+fn byte_of(a: u8, b: u8) -> Hex {
     let high = value(a);
     let low = value(b);
     let Digit::Is(h) = high else {
-        return false;
+        return Hex::Not;
     };
     let Digit::Is(l) = low else {
-        return false;
+        return Hex::Not;
     };
-    keep(out, i, joined(h, l));
-    true
+    Hex::Is(joined(h, l))
 }
 
 fn unhex(line: &[u8], out: &mut [u8]) -> Bytes {
@@ -64,9 +56,11 @@ fn unhex(line: &[u8], out: &mut [u8]) -> Bytes {
     }
     let mut i: usize = 0;
     while i < n {
-        if !pair(line[2 * i], line[2 * i + 1], i, out) {
+        let r = byte_of(line[2 * i], line[2 * i + 1]);
+        let Hex::Is(b) = r else {
             return Bytes::Not;
-        }
+        };
+        out[i] = b;
         i += 1;
     }
     Bytes::Are(n)
@@ -84,11 +78,12 @@ fn fitted(sheet: &[u8], text: &mut [u8], at: usize) -> usize {
     }
 }
 
-pub fn line(line: &[u8], sheet: &mut [u8], text: &mut [u8], at: usize) -> usize {
-    let found = unhex(line, sheet);
+pub(crate) fn line(line: &[u8], text: &mut [u8], at: usize) -> usize {
+    let mut sheet = sheet();
+    let found = unhex(line, &mut sheet);
     match found {
         Bytes::Are(n) => {
-            let k = within(sheet, n);
+            let k = within(&sheet, n);
             let p = fitted(&sheet[..k], text, at);
             bytes(b".\n", text, p)
         }

@@ -1,6 +1,6 @@
 // The problems: numbers from -1 to 1, by the congruence of Park and Miller.
 
-pub fn first_seed() -> u64 {
+pub(crate) fn first_seed() -> u64 {
     20261115
 }
 
@@ -16,7 +16,7 @@ fn value_of(seed: u64) -> f64 {
 }
 
 // The seed after the last number.
-pub fn fill(room: &mut [f64], seed: u64) -> u64 {
+pub(crate) fn fill(room: &mut [f64], seed: u64) -> u64 {
     let mut s = seed;
     let mut i: usize = 0;
     while i < room.len() {

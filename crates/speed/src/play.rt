@@ -2,27 +2,20 @@
 use crate::make::fill;
 use crate::room;
 use factor::state::State;
-use leaves::reply::Value;
+use lines::part::doubles_within;
 use search::trust_region::Found;
 use std::num::wrapping_add_usize;
 use std::num::wrapping_sub_usize;
-ghost use Rattle.text.specs.Part.{Part};
 
-pub struct Task {
-    pub m: usize,
-    pub n: usize,
-    pub mode: usize,
+pub(crate) struct Task {
+    pub(crate) m: usize,
+    pub(crate) n: usize,
+    pub(crate) mode: usize,
 }
 
-pub struct Tally {
-    pub seed: u64,
-    pub sum: f64,
-}
-
-fn within(v: &[f64], n: usize) -> usize
-    ensures { λ r. ⌜ Part r (now (v .entry)) ⌝ }
-{
-    if n < v.len() { n } else { v.len() }
+pub(crate) struct Tally {
+    pub(crate) seed: u64,
+    pub(crate) sum: f64,
 }
 
 // Of sizes that fit the rooms; else 0.
@@ -66,10 +59,8 @@ fn multiply(v: &mut [f64], diag: &[f64]) {
 fn radius_of(st: State, store: &mut [f64], order: &[usize], diag: &[f64], step: &mut [f64]) -> f64 {
     factor::least_squares::solve_with_zero_diagonal(st, store, order, step);
     multiply(step, diag);
-    match leaves::norm::enorm(step) {
-        Value::Is(x) => x * 0.1,
-        Value::Refused(_) => 0.0,
-    }
+    let s = leaves::norm::enorm(step);
+    s.value * 0.1
 }
 
 fn seek(
@@ -136,7 +127,7 @@ fn factored(
     diag: &mut [f64],
     step: &mut [f64],
 ) -> f64 {
-    let told = factor::factoring::pivoted_qr(t.m, t.n, jacobian, residuals, store, order, bench);
+    let told = factor::pivoted_qr::pivoted_qr(t.m, t.n, jacobian, residuals, store, order, bench);
     let x = corner(t.n, store);
     x + further(t.mode, told.state, store, order, diag, step)
 }
@@ -187,7 +178,7 @@ fn in_rooms(
     z.sum
 }
 
-pub fn all(t: Task, calls: usize, y: Tally) -> f64 {
+pub(crate) fn all(t: Task, calls: usize, y: Tally) -> f64 {
     let mut jacobian = room::jacobian();
     let mut residuals = room::residuals();
     let mut store = room::store();
@@ -195,10 +186,10 @@ pub fn all(t: Task, calls: usize, y: Tally) -> f64 {
     let mut bench = room::bench();
     let mut diag = room::vector();
     let mut step = room::vector();
-    let a = within(&jacobian, product(t.m, t.n));
-    let b = within(&residuals, t.m);
-    let c = within(&diag, t.n);
-    let d = within(&step, t.n);
+    let a = doubles_within(&jacobian, product(t.m, t.n));
+    let b = doubles_within(&residuals, t.m);
+    let c = doubles_within(&diag, t.n);
+    let d = doubles_within(&step, t.n);
     in_rooms(
         t,
         calls,

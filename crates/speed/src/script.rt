@@ -4,32 +4,9 @@ use crate::play::Tally;
 use crate::play::Task;
 use crate::play::all;
 use crate::room;
+use lines::scan::word;
 use text::double::bits_of;
 use text::put;
-use text::read::Read;
-
-struct Number {
-    value: usize,
-    next: usize,
-    good: bool,
-}
-
-// A word and the space after it. One that does not read leaves its place, so that no word after it is good either.
-fn word(s: &[u8], at: usize) -> Number {
-    let r = text::read::number(s, at);
-    match r {
-        Read::Is(f) => Number {
-            value: f.value as usize,
-            next: std::num::wrapping_add_usize(f.next, 1),
-            good: true,
-        },
-        Read::Refused => Number {
-            value: 0,
-            next: at,
-            good: false,
-        },
-    }
-}
 
 fn print(sum: f64) {
     let mut line = room::line();
@@ -37,7 +14,8 @@ fn print(sum: f64) {
     io::write_all(1, &line);
 }
 
-pub fn run(s: &[u8]) {
+// A word that does not read leaves its place, so that no word after it is good either.
+pub(crate) fn run(s: &[u8]) {
     let m = word(s, 0);
     let n = word(s, m.next);
     let calls = word(s, n.next);
@@ -47,13 +25,13 @@ pub fn run(s: &[u8]) {
         return;
     }
     let t = Task {
-        m: m.value,
-        n: n.value,
-        mode: mode.value,
+        m: m.value as usize,
+        n: n.value as usize,
+        mode: mode.value as usize,
     };
     let start = Tally {
         seed: first_seed(),
         sum: 0.0,
     };
-    print(all(t, calls.value, start));
+    print(all(t, calls.value as usize, start));
 }

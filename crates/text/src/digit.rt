@@ -14,7 +14,10 @@ fn wide(b: u8) -> u64
     b as u64
 }
 
-// Capital or small.
+// The value of a hex digit, capital or small.
+//
+// b: any byte.
+// Refused where it is no digit.
 pub fn value(b: u8) -> Digit
     ensures { λ r. ⌜ r ≡ valueOf b ⌝ }
 {
@@ -40,7 +43,7 @@ pub fn value(b: u8) -> Digit
     Digit::Not
 }
 
-// The capital hex digit of v's last four bits.
+// The capital hex digit of v's last four bits, as a byte. Refuses nothing.
 pub fn capital(v: u64) -> u8
     ensures { λ r. ⌜ r ≡ glyph (v % 16) ⌝ }
 {

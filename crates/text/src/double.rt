@@ -2,7 +2,7 @@
 ghost use mathlib.Core.Path.{_≡_};
 ghost use lib.Ieee.{binary64, ofBits, toBits};
 
-// Every NaN's pattern gives the one NaN.
+// The double of a bit pattern; every NaN's pattern gives the one NaN. Refuses nothing.
 pub fn of_bits(w: u64) -> f64
     ensures { λ r. ⌜ r ≡ ofBits binary64 w ⌝ }
 {
@@ -12,6 +12,7 @@ pub fn of_bits(w: u64) -> f64
     f64::from_bits(w)
 }
 
+// The bit pattern of a double; a NaN's is 7FF8000000000000. Refuses nothing.
 pub fn bits_of(x: f64) -> u64
     ensures { λ r. ⌜ r ≡ toBits binary64 x ⌝ }
 {

@@ -54,14 +54,14 @@ fn put_digits(n: u64, base: u64, k: usize, out: &mut [u8], at: usize) -> usize
     at + k
 }
 
-// 16 capital hex digits.
+// n as 16 capital hex digits, into out from `at` on; nothing where they do not fit. Answers the place after them, else `at`.
 pub fn word(n: u64, out: &mut [u8], at: usize) -> usize
     ensures { λ r. ⌜ (r, now (out .exit)) ≡ placed (digits 16 16 n) at (now (out .entry)) ⌝ }
 {
     put_digits(n, 16, 16, out, at)
 }
 
-// Capital hex digits, with no leading zeros.
+// n as capital hex digits with no leading zeros, into out from `at` on; nothing where they do not fit. Answers the place after them, else `at`.
 pub fn hex(n: u64, out: &mut [u8], at: usize) -> usize
     ensures { λ r. ⌜ (r, now (out .exit)) ≡ placed (hexOf n) at (now (out .entry)) ⌝ }
 {
@@ -69,6 +69,7 @@ pub fn hex(n: u64, out: &mut [u8], at: usize) -> usize
     put_digits(n, 16, k, out, at)
 }
 
+// n as decimal digits with no leading zeros, into out from `at` on; nothing where they do not fit. Answers the place after them, else `at`.
 pub fn decimal(n: u64, out: &mut [u8], at: usize) -> usize
     ensures { λ r. ⌜ (r, now (out .exit)) ≡ placed (decimalOf n) at (now (out .entry)) ⌝ }
 {
@@ -87,6 +88,7 @@ fn copy(src: &[u8], out: &mut [u8], at: usize)
     }
 }
 
+// src into out from `at` on; nothing where it does not fit. Answers the place after it, else `at`.
 pub fn bytes(src: &[u8], out: &mut [u8], at: usize) -> usize
     ensures { λ r. ⌜ (r, now (out .exit)) ≡ placed (now (src .entry)) at (now (out .entry)) ⌝ }
 {

@@ -137,6 +137,20 @@ fn going_on() -> Vec<Vec<Item>> {
     ]
 }
 
+/// What is held, and what a held call reads: L = 5 for J = (3), r = (6), D = (4), so L·qt_b is −30 in a fresh working. Each call
+/// between that a problem allows: refused ones, a zero solve, a search; and straight after a factoring every held call
+/// is refused 5, whoever asks.
+fn held() -> Vec<Vec<Item>> {
+    let four = || Item::Damped(vec![4.0]);
+    let refused = || search(&[1.0], 0.0, 0.0);
+    let three = |calls: &[Item]| case(1, 1, &[3.0], &[6.0], calls);
+    vec![
+        three(&[four(), Item::Mul, refused(), Item::Mul, Item::Determined, Item::Mul]),
+        three(&[four(), Item::Zero, Item::Mul, four(), search(&[1.0], 2.0, 0.0), Item::Mul]),
+        three(&[Item::Mul, Item::Solve(vec![1.0]), Item::Mul]),
+    ]
+}
+
 fn is_long(items: &[Item]) -> bool {
     items
         .iter()
@@ -186,6 +200,6 @@ fn sequences() -> Vec<Vec<Item>> {
 pub fn cases() -> Vec<Vec<Item>> {
     let mut factorings = thinned(scripts(Kind::Factorings, DRAWN, 1), |_| true);
     factorings.truncate(FACTORINGS);
-    let fixed = [examples(), limits(), witnesses(), going_on()].concat();
+    let fixed = [examples(), limits(), witnesses(), going_on(), held()].concat();
     [fixed, factorings, sequences()].concat()
 }

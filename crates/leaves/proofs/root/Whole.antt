@@ -36,9 +36,6 @@ roots-le a b n p q = le-of-suc-le-suc (lt-of-not-le (λ (g : suc b ≤ a). no (m
     no : (b + 1) * (b + 1) ≤ a * a → ⊥
     no g = lt-irrefl n (lt-of-lt-of-le q (le-trans g p))
 
-pub root-unique : (a b n : ℕ) → IsRoot n a → IsRoot n b → a ≡ b
-root-unique a b n p q = le-antisymm (roots-le a b n (p .0) (q .1)) (roots-le b a n (q .0) (p .1))
-
 rooted-is : (n w rem : ℕ) → Rooted n w rem → IsRoot n w
 rooted-is n w rem r = omega (arith, r .square, r .left)
 

@@ -1,15 +1,14 @@
 -- `factor::factor::clear` meets its contract. Assumes nothing.
-use Prim.Native.Nat.{_+_, _*_}
+use Prim.Native.Nat.{_+_, _*_, ℕ}
 use mathlib.Core.Path.{ap, _∙_}
 use native.Mathlib.Omega.{arith}
 use borrow.Author.Needs.{needs}
-use Prim.Native.Nat.{ℕ}
 use mathlib.Core.List.{List, _++_}
 use lib.ListN.{drop, length-take}
 use lib.Seq.{length-take-le}
 use lib.Ieee.{Float, ofBits}
-use Rattle.factor.specs.Loop.{countFrom}
-use Rattle.factor.specs.Room.{zeros}
+use Rattle.leaves.specs.Loop.{countFrom}
+use Rattle.leaves.specs.Square.{zeros}
 use Rattle.factor.proofs.factor.clear.Statement.{statement}
 use Rattle.factor.proofs.factor.clear.Tie as tie
 

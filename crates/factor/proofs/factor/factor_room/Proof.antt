@@ -1,36 +1,79 @@
 -- `factor::factor::factor_room` meets its contract. Assumes nothing.
+use Prim.Native.Nat.{_+_, _*_, _-_}
+use mathlib.Core.Path.{sym, ap, _∙_}
 use native.Mathlib.Omega.{arith}
 use borrow.Author.Needs.{needs}
-use lib.ListN.{length-take}
+use Rattle.leaves.specs.Square.{zeros}
+use Rattle.leaves.specs.Patch.{patch}
+use Rattle.leaves.proofs.Overs.{lent-fits, lent-long}
+use Rattle.reduce.proofs.Begins.{kept-bench}
+use Rattle.reduce.proofs.Lent.{front-in, front-again, front-long}
+use Rattle.factor.proofs.Stores.{norms-part, norms-size, norms-read, norms-past}
+use Rattle.factor.proofs.Workings.{store-reduced, room-laid, room-long}
 use Rattle.factor.proofs.factor.factor_room.Statement.{statement}
 use Rattle.factor.proofs.factor.factor_room.Tie as tie
+
+mul-a : tie.Need-mul-a
+mul-a c = search needs
+
+add-a : tie.Need-add-a
+add-a c = search needs
+
+add-e : tie.Need-add-e
+add-e c = search needs
 
 room16-requires : tie.Need-room16-requires
 room16-requires c κs = search needs
 
-room16-requires-2 : tie.Need-room16-requires-2
-room16-requires-2 c κs = search needs
+mul-reduce-bench : tie.Need-mul-reduce-bench
+mul-reduce-bench c = search needs
 
-room128-requires : tie.Need-room128-requires
-room128-requires c κs = search needs
+sub-reduce-bench : tie.Need-sub-reduce-bench
+sub-reduce-bench c = search needs
+
+part-reduce-bench-start : tie.Need-part-reduce-bench-start
+part-reduce-bench-start c = search needs
+
+part-reduce-bench-end : tie.Need-part-reduce-bench-end
+part-reduce-bench-end c = search needs
 
 array-borrow-prefix-diag : tie.Need-array-borrow-prefix-diag
 array-borrow-prefix-diag c = search needs
 
-slice-aggregate-factor-with : tie.Need-slice-aggregate-factor-with
-slice-aggregate-factor-with c = simp length-take (omega arith)
+slice-aggregate-reduce-bench : tie.Need-slice-aggregate-reduce-bench
+slice-aggregate-reduce-bench c = sym (lent-long (c .before .before .before .before .before .before .before .before .args .n) (c .before .before .room16 .result) (c .before .before .room16 .ensures) (c .before .before .before .before .before .before .before .before .pre .0 .across))
 
-array-borrow-prefix-work : tie.Need-array-borrow-prefix-work
-array-borrow-prefix-work c = search needs
+reduce-bench-requires : tie.Need-reduce-bench-requires
+reduce-bench-requires c κs = search needs
 
-slice-aggregate-factor-with-2 : tie.Need-slice-aggregate-factor-with-2
-slice-aggregate-factor-with-2 c = simp length-take (omega arith)
+array-share-prefix-diag : tie.Need-array-share-prefix-diag
+array-share-prefix-diag c =
+    let n = c .before .before .before .before .before .before .before .before .before .before .before .before .before .before .before .before .before .before .before .args .n in
+    let r = c .before .before .before .before .before .before .before .before .before .before .before .before .before .room16 in
+    let x = c .before .before .before .before .before .before .before .before .reduce-bench in
+    front-in n (x .last .1 .1 .1 .1 .1 .0) (r .result) (lent-fits n (r .result) (r .ensures) (c .before .before .before .before .before .before .before .before .before .before .before .before .before .before .before .before .before .before .before .pre .0 .across)) (x .kept .1 .1 .1 .1 .1 .0)
 
-slice-aggregate-factor-with-3 : tie.Need-slice-aggregate-factor-with-3
-slice-aggregate-factor-with-3 c = search needs
+slice-aggregate-lay-store : tie.Need-slice-aggregate-lay-store
+slice-aggregate-lay-store c =
+    let n = c .before .before .before .before .before .before .before .before .before .before .before .before .before .before .before .before .before .before .before .before .args .n in
+    let r = c .before .before .before .before .before .before .before .before .before .before .before .before .before .before .room16 in
+    let x = c .before .before .before .before .before .before .before .before .before .reduce-bench in
+    sym (front-long n (x .last .1 .1 .1 .1 .1 .0) (r .result) (lent-fits n (r .result) (r .ensures) (c .before .before .before .before .before .before .before .before .before .before .before .before .before .before .before .before .before .before .before .before .pre .0 .across)) (x .kept .1 .1 .1 .1 .1 .0))
 
-factor-with-requires : tie.Need-factor-with-requires
-factor-with-requires c κs = (search needs, (search needs, (search needs, (search needs, (search needs, (search needs, (simp length-take (omega arith), (simp length-take (omega arith), search needs))))))))
+lay-store-requires : tie.Need-lay-store-requires
+lay-store-requires c κs =
+    let n = c .before .before .before .before .before .before .before .before .before .before .before .before .before .before .before .before .before .before .before .before .before .args .n in
+    let s = c .before .before .before .before .before .before .before .before .before .before .before .before .before .before .before .before .before .before .before .before .before .args .store .now in
+    let p = c .before .before .before .before .before .before .before .before .before .before .before .before .before .before .before .before .before .before .before .before .before .pre in
+    let r = c .before .before .before .before .before .before .before .before .before .before .before .before .before .before .before .room16 in
+    let x = c .before .before .before .before .before .before .before .before .before .before .reduce-bench in
+    let a = n * n + n in
+    let lv = x .kept .1 .1 .1 .1 .0 ∙ norms-part n s (a + n - a) (omega arith) (p .1 .1 .1 .1 .0) in
+    let l = norms-size n s (x .last .1 .1 .1 .1 .0) (p .1 .1 .1 .1 .0) lv (a + n - a) (omega arith) in
+    (kept-bench (p .0) (x .kept .1 .1 .1 .1 .1 .1 .1 .0), (front-long n (x .last .1 .1 .1 .1 .1 .0) (r .result) (lent-fits n (r .result) (r .ensures) (p .0 .across)) (x .kept .1 .1 .1 .1 .1 .0), rw l (p .1 .1 .1 .1 .0)))
+
+clear-long-requires : tie.Need-clear-long-requires
+clear-long-requires c κs = search needs
 
 same-length : tie.Need-same-length
 same-length c = search needs
@@ -42,21 +85,46 @@ same-length-3 : tie.Need-same-length-3
 same-length-3 c = search needs
 
 returns : tie.Need-returns
-returns c = search needs
+returns c =
+    let g = c .before .before .before .before .before .before .before .before .before .before .before .before .before .before .before .before .before .before .before .before .before .before .before .before .before .before .before .before .args in
+    let p = c .before .before .before .before .before .before .before .before .before .before .before .before .before .before .before .before .before .before .before .before .before .before .before .before .before .before .before .before .pre in
+    let r = c .before .before .before .before .before .before .before .before .before .before .before .before .before .before .before .before .before .before .before .before .before .before .room16 in
+    let x = c .before .before .before .before .before .before .before .before .before .before .before .before .before .before .before .before .before .reduce-bench in
+    let y = c .before .before .before .before .before .before .lay-store in
+    let n = g .n in
+    let s = g .store .now in
+    let h = p .1 .1 .1 .1 .0 in
+    let a = n * n + n in
+    let v = x .last .1 .1 .1 .1 .0 in
+    let d = x .last .1 .1 .1 .1 .1 .0 in
+    let o = x .last .1 .1 .1 .1 .1 .1 .0 in
+    let b = x .last .1 .1 .1 .1 .1 .1 .1 .0 in
+    let lv = x .kept .1 .1 .1 .1 .0 ∙ norms-part n s (a + n - a) (omega arith) h in
+    let e = store-reduced (g .m) n (g .jacobian .now) (g .residuals .now) s (r .result) v d (g .bench .now) b (g .order .now) o (a + n - a) (p .0) (p .1 .0) (p .1 .1 .0) (p .1 .1 .1 .0) h (p .1 .1 .1 .1 .1) (r .ensures) (omega arith) (x .ensures) in
+    let f = front-again n d (r .result) (lent-fits n (r .result) (r .ensures) (p .0 .across)) (x .kept .1 .1 .1 .1 .1 .0) in (
+      room-laid (g .m) n (g .jacobian .now) (g .residuals .now) v d _ b o e f _ s (patch a (a + n - a) s v) (norms-read n s v h lv (a + n - a) (omega arith)) (norms-past n s v h lv (a + n - a) (omega arith)) (y .ensures .0),
+      (e .order, (c .before .before .clear-long .ensures ∙ ap zeros (x .kept .1 .1 .1 .1 .1 .1 .1 .0), room-long (g .m) n (g .jacobian .now) (g .residuals .now) v d _ b o e f (y .ensures .1))),
+    )
 
 pub factor-room-spec : {M : Type 1} → statement M
 factor-room-spec =
     tie.close
     (tie.spec
+    mul-a
+    add-a
+    add-e
     room16-requires
-    room16-requires-2
-    room128-requires
+    mul-reduce-bench
+    sub-reduce-bench
+    part-reduce-bench-start
+    part-reduce-bench-end
     array-borrow-prefix-diag
-    slice-aggregate-factor-with
-    array-borrow-prefix-work
-    slice-aggregate-factor-with-2
-    slice-aggregate-factor-with-3
-    factor-with-requires
+    slice-aggregate-reduce-bench
+    reduce-bench-requires
+    array-share-prefix-diag
+    slice-aggregate-lay-store
+    lay-store-requires
+    clear-long-requires
     same-length
     same-length-2
     same-length-3

@@ -6,7 +6,7 @@ use borrow.Author.Needs.{needs}
 use lib.ListN.{length, length-take}
 use lib.Seq.{length-take-le}
 use lib.Ieee.{ofBits}
-use Rattle.factor.proofs.Begins.{transformed-long, store-laid}
+use Rattle.factor.proofs.Stores.{transformed-long, store-laid}
 use Rattle.factor.proofs.factor.lay_store.Statement.{statement}
 use Rattle.factor.proofs.factor.lay_store.Tie as tie
 

@@ -5,7 +5,7 @@ use native.Mathlib.Omega.{arith}
 use borrow.Author.Needs.{needs}
 use lib.ListN.{length, set, length-set, length-take, length-drop}
 use borrow.Rule.Slice.PartMut.{same-len-mid}
-use Rattle.factor.proofs.Helds.{below-law}
+use Rattle.factor.proofs.held.Helds.{below-law}
 use Rattle.factor.proofs.held.add_below.Statement.{statement}
 use Rattle.factor.proofs.held.add_below.Tie as tie
 

@@ -2,7 +2,7 @@
 use native.Mathlib.Omega.{arith}
 use borrow.Author.Needs.{needs}
 use lib.ListN.{length-take, length-drop}
-use Rattle.factor.proofs.Helds.{forward-law}
+use Rattle.factor.proofs.held.Helds.{forward-law}
 use Rattle.factor.proofs.held.forward_place.Statement.{statement}
 use Rattle.factor.proofs.held.forward_place.Tie as tie
 

@@ -5,10 +5,10 @@ use native.Mathlib.Omega.{arith}
 use borrow.Author.Needs.{needs}
 use mathlib.Core.List.{[]}
 use lib.ListN.{length, take, drop}
-use Rattle.factor.specs.Room.{uppersOf}
+use Rattle.leaves.specs.Square.{uppersOf}
 use Rattle.factor.specs.Held.{forwardUpper}
-use Rattle.factor.proofs.Squares.{column-end, uppersOf-length}
-use Rattle.factor.proofs.Helds.{forward-turn, forward-end}
+use Rattle.leaves.proofs.Squares.{column-end, uppersOf-length}
+use Rattle.factor.proofs.held.Helds.{forward-turn, forward-end}
 use Rattle.factor.proofs.held.forward_upper.Statement.{statement}
 use Rattle.factor.proofs.held.forward_upper.Tie as tie
 

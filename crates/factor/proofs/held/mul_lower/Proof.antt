@@ -2,7 +2,7 @@
 use mathlib.Core.Path.{ap, _∙_}
 use borrow.Author.Needs.{needs}
 use lib.Ieee.{ofBits}
-use Rattle.factor.specs.Room.{belowsOf, zeros}
+use Rattle.leaves.specs.Square.{belowsOf, zeros}
 use Rattle.factor.specs.Held.{mulLower}
 use Rattle.factor.proofs.held.mul_lower.Statement.{statement}
 use Rattle.factor.proofs.held.mul_lower.Tie as tie

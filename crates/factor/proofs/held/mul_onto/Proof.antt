@@ -5,10 +5,10 @@ use native.Mathlib.Omega.{arith}
 use borrow.Author.Needs.{needs}
 use mathlib.Core.List.{_++_}
 use lib.ListN.{length, take, drop}
-use Rattle.factor.specs.Room.{belowsOf}
+use Rattle.leaves.specs.Square.{belowsOf}
 use Rattle.factor.specs.Held.{mulLower}
-use Rattle.factor.proofs.Squares.{column-end, belowsOf-length}
-use Rattle.factor.proofs.Helds.{mul-turn, mul-end}
+use Rattle.leaves.proofs.Squares.{column-end, belowsOf-length}
+use Rattle.factor.proofs.held.Helds.{mul-turn, mul-end}
 use Rattle.factor.proofs.held.mul_onto.Statement.{statement}
 use Rattle.factor.proofs.held.mul_onto.Tie as tie
 

@@ -4,11 +4,11 @@ use mathlib.Core.Path.{_≡_, refl}
 use native.Mathlib.Omega.{arith}
 use borrow.Author.Needs.{needs}
 use lib.ListN.{length, length-set}
-use Rattle.factor.specs.Room.{uppersOf}
+use Rattle.leaves.specs.Square.{uppersOf}
 use Rattle.factor.specs.Held.{mulUpper}
 use Rattle.leaves.proofs.Folds.{front, front-turn, front-end}
-use Rattle.factor.proofs.Squares.{column-end}
-use Rattle.factor.proofs.Helds.{mulUpper-length}
+use Rattle.leaves.proofs.Squares.{column-end}
+use Rattle.factor.proofs.held.Helds.{mulUpper-length}
 use Rattle.factor.proofs.held.mul_upper.Statement.{statement}
 use Rattle.factor.proofs.held.mul_upper.Tie as tie
 

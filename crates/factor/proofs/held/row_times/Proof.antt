@@ -2,7 +2,7 @@
 use native.Mathlib.Omega.{arith}
 use borrow.Author.Needs.{needs}
 use lib.ListN.{length-take, length-drop}
-use Rattle.factor.proofs.Helds.{row-law}
+use Rattle.factor.proofs.held.Helds.{row-law}
 use Rattle.factor.proofs.held.row_times.Statement.{statement}
 use Rattle.factor.proofs.held.row_times.Tie as tie
 

@@ -27,29 +27,26 @@ solve-damped-requires : tie.Need-solve-damped-requires
 solve-damped-requires c κs = search needs
 
 returns : tie.Need-returns
-returns c = never-empty (c .enum-told .given .1) (c .before .before .before .before .before .pre .0 .0)
+returns c = never-empty (c .enum-told .given .1) (c .before .before .before .before .pre .0 .0)
 
 returns-2 : tie.Need-returns-2
-returns-2 c = never-nothing (c .enum-told2 .given .1) (c .before .before .before .before .before .pre .0 .1)
+returns-2 c = never-nothing (c .enum-told2 .given .1) (c .before .before .before .before .pre .0 .1)
 
 same-length : tie.Need-same-length
 same-length c = search needs
 
 returns-3 : tie.Need-returns-3
 returns-3 c =
-    let g = c .before .before .before .before .before .before .before .before .before .args in
+    let g = c .before .before .before .before .before .before .before .before .args in
     c .before .before .solve-zero .ensures ∙ ap (λ (h : Held). heldSolved h (g .w .now) (load (g .n) (g .store .now))) (sym (c .before .before .before .before .enum-told3 .given .1))
 
 same-length-2 : tie.Need-same-length-2
 same-length-2 c = search needs
 
-same-length-3 : tie.Need-same-length-3
-same-length-3 c = search needs
-
 returns-4 : tie.Need-returns-4
 returns-4 c =
-    let g = c .before .before .before .before .before .before .before .before .before .before .before .before .args in
-    c .before .before .before .before .solve-damped .ensures ∙ ap (λ (h : Held). heldSolved h (g .w .now) (load (g .n) (g .store .now))) (sym (c .before .before .before .before .before .before .before .enum-told4 .given .1))
+    let g = c .before .before .before .before .before .before .before .before .args in
+    c .before .before .solve-damped .ensures ∙ ap (λ (h : Held). heldSolved h (g .w .now) (load (g .n) (g .store .now))) (sym (c .before .before .before .before .enum-told4 .given .1))
 
 pub solve-held-spec : {M : Type 1} → statement M
 solve-held-spec =
@@ -66,5 +63,4 @@ solve-held-spec =
     same-length
     returns-3
     same-length-2
-    same-length-3
     returns-4)

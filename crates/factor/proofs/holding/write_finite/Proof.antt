@@ -2,7 +2,6 @@
 use mathlib.Core.Path.{refl, sym, _∙_}
 use borrow.Author.Needs.{needs}
 use mathlib.Core.Bool.{true≢false}
-use Rattle.factor.proofs.Holds.{finite-whole}
 use Rattle.factor.proofs.holding.write_finite.Statement.{statement}
 use Rattle.factor.proofs.holding.write_finite.Tie as tie
 
@@ -17,13 +16,11 @@ same-length c = search needs
 
 returns : tie.Need-returns
 returns c =
-    let g = c .before .before .before .before .before .before .before .before .args in
-    (sym (c .before .before .before .before .if1 .taken) ∙ finite-whole (g .w .now) (c .before .before .before .before .before .all-finite .ensures), (λ h. c .before .before .write-first .ensures, λ h. absurd (true≢false h)))
+    (sym (c .before .before .before .before .if1 .taken) ∙ c .before .before .before .before .before .all-finite .ensures, (λ h. c .before .before .write-first .ensures, λ h. absurd (true≢false h)))
 
 returns-2 : tie.Need-returns-2
 returns-2 c =
-    let g = c .before .before .before .before .args in
-    (sym (c .if1 .left) ∙ finite-whole (g .w .now) (c .before .all-finite .ensures), (λ h. absurd (true≢false (sym h)), λ h. refl))
+    (sym (c .if1 .left) ∙ c .before .all-finite .ensures, (λ h. absurd (true≢false (sym h)), λ h. refl))
 
 pub write-finite-spec : {M : Type 1} → statement M
 write-finite-spec =

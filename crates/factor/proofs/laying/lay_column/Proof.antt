@@ -1,25 +1,24 @@
 -- `factor::laying::lay_column` meets its contract. Assumes nothing.
-use Prim.Native.Nat.{_+_, _-_}
+use Prim.Native.Nat.{_+_, _-_, suc}
 use native.Mathlib.Omega.{arith}
 use borrow.Author.Needs.{needs}
-use Prim.Native.Nat.{suc}
 use mathlib.Core.List.{[]}
 use lib.ListN.{getD, take, drop}
 use Rattle.leaves.proofs.Triangles.{column-fits}
-use Rattle.factor.specs.Bench.{grid}
-use Rattle.factor.proofs.Grids.{tail-part, column-long}
+use Rattle.reduce.specs.Bench.{grid}
+use Rattle.leaves.proofs.Grids.{tail-part, column-long}
 use Rattle.factor.proofs.Lays.{column-laid}
 use Rattle.factor.proofs.laying.lay_column.Statement.{statement}
 use Rattle.factor.proofs.laying.lay_column.Tie as tie
 
-row-at-requires : tie.Need-row-at-requires
-row-at-requires c κs = search needs
+column-at-requires : tie.Need-column-at-requires
+column-at-requires c κs = search needs
 
 add-e : tie.Need-add-e
 add-e c = search needs
 
-row-at-requires-2 : tie.Need-row-at-requires-2
-row-at-requires-2 c κs = search needs
+column-at-requires-2 : tie.Need-column-at-requires-2
+column-at-requires-2 c κs = search needs
 
 add-to : tie.Need-add-to
 add-to c = search needs
@@ -57,21 +56,21 @@ same-length c = search needs
 returns : tie.Need-returns
 returns c =
     let g = c .before .before .before .before .before .before .before .before .before .args in
-    let p = c .before .before .before .before .before .before .row-at in
-    let q = c .before .before .before .before .before .row-at2 in
+    let p = c .before .before .before .before .before .before .column-at in
+    let q = c .before .before .before .before .before .column-at2 in
     let f = column-fits (g .k) (g .n) (g .n) (c .before .before .before .before .before .before .before .before .before .pre .1 .0) in
     column-laid (g .m) (g .n) (g .k) (g .d) (take (p .result + g .m - p .result) (drop (p .result) (g .bench .now))) (getD (grid (g .m) (g .n) (g .bench .now)) (g .k) []) (g .square .now) _ (q .result) (q .result + g .n - q .result)
     (omega arith) (omega arith) (omega arith)
-    (tail-part (g .m) (suc (g .n)) (g .k) 0 (g .bench .now) (p .result) (p .result + g .m - p .result) (p .ensures .0) (omega arith) (omega arith))
+    (tail-part (g .m) (suc (g .n)) (g .k) 0 (g .bench .now) (p .result) (p .result + g .m - p .result) (omega (arith, p .ensures .0)) (omega arith) (omega arith))
     (column-long (g .m) (suc (g .n)) (g .bench .now) (g .k) (omega arith) (omega arith)) (c .before .before .lay-in .ensures)
 
 pub lay-column-spec : {M : Type 1} → statement M
 lay-column-spec =
     tie.close
     (tie.spec
-    row-at-requires
+    column-at-requires
     add-e
-    row-at-requires-2
+    column-at-requires-2
     add-to
     mul-lay-in
     sub-lay-in

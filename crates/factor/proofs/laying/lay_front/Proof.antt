@@ -6,7 +6,7 @@ use borrow.Author.Needs.{needs}
 use lib.ListN.{length, take, length-take}
 use lib.Seq.{length-take-le}
 use lib.Ieee.{ofBits}
-use Rattle.factor.proofs.Lays.{two-parts, filled}
+use Rattle.leaves.proofs.Overs.{two-parts, filled}
 use Rattle.factor.proofs.laying.lay_front.Statement.{statement}
 use Rattle.factor.proofs.laying.lay_front.Tie as tie
 

@@ -7,10 +7,12 @@ use mathlib.Core.List.{[]}
 use native.Mathlib.Nat.{zero-mul}
 use lib.ListN.{length, getD, take}
 use lib.Seq.{getD-take}
-use Rattle.factor.specs.Room.{joined}
-use Rattle.factor.specs.Factor.{uppers, noLower}
-use Rattle.factor.specs.Bench.{grid}
-use Rattle.factor.proofs.Lays.{over, over-end, whole-long, lay-turn, bench-wide, bench-long}
+use Rattle.leaves.specs.Square.{joined}
+use Rattle.factor.specs.Factoring.{uppers, noLower}
+use Rattle.reduce.specs.Bench.{grid}
+use Rattle.leaves.proofs.Overs.{over, over-end}
+use Rattle.factor.proofs.Lays.{whole-long, lay-turn}
+use Rattle.reduce.proofs.Begins.{bench-wide, bench-long}
 use Rattle.factor.proofs.laying.lay_out.Statement.{statement}
 use Rattle.factor.proofs.laying.lay_out.Tie as tie
 

@@ -1,17 +1,16 @@
 -- `factor::laying::take_rhs` meets its contract. Assumes nothing.
-use Prim.Native.Nat.{_+_, _-_}
+use Prim.Native.Nat.{_+_, _-_, ℕ, suc}
 use mathlib.Core.Path.{ap, _∙_}
 use native.Mathlib.Omega.{arith}
 use borrow.Author.Needs.{needs}
-use Prim.Native.Nat.{ℕ, suc}
 use lib.ListN.{take, drop}
-use Rattle.factor.specs.Factor.{transformed}
-use Rattle.factor.proofs.Grids.{tail-part}
+use Rattle.factor.specs.Factoring.{transformed}
+use Rattle.leaves.proofs.Grids.{tail-part}
 use Rattle.factor.proofs.laying.take_rhs.Statement.{statement}
 use Rattle.factor.proofs.laying.take_rhs.Tie as tie
 
-row-at-requires : tie.Need-row-at-requires
-row-at-requires c κs = search needs
+column-at-requires : tie.Need-column-at-requires
+column-at-requires c κs = search needs
 
 add-e : tie.Need-add-e
 add-e c = search needs
@@ -37,15 +36,15 @@ same-length c = search needs
 returns : tie.Need-returns
 returns c =
     let g = c .before .before .before .before .before .before .before .before .args in
-    let p = c .before .before .before .before .before .row-at in
+    let p = c .before .before .before .before .before .column-at in
     c .before .before .lay-rhs .ensures ∙ ap (λ (l : ℕ). transformed l (take (p .result + g .m - p .result) (drop (p .result) (g .bench .now)))) (c .before .before .before .before .before .before .before .before .pre .1)
-    ∙ ap (transformed (g .n)) (tail-part (g .m) (suc (g .n)) (g .n) 0 (g .bench .now) (p .result) (p .result + g .m - p .result) (p .ensures .0) (omega arith) (omega arith))
+    ∙ ap (transformed (g .n)) (tail-part (g .m) (suc (g .n)) (g .n) 0 (g .bench .now) (p .result) (p .result + g .m - p .result) (omega (arith, p .ensures .0)) (omega arith) (omega arith))
 
 pub take-rhs-spec : {M : Type 1} → statement M
 take-rhs-spec =
     tie.close
     (tie.spec
-    row-at-requires
+    column-at-requires
     add-e
     mul-lay-rhs
     sub-lay-rhs

@@ -33,9 +33,12 @@ same-length-4 c = search needs
 
 returns : tie.Need-returns
 returns c =
-    let l = c .before .before .before .before .before .before .before .before .before .before .before .before .before .damped-step .kept .1 .1 .1 .1 .0 ∙ c .before .before .before .before .before .before .before .before .before .before .before .before .before .before .before .before .before .before .before .before .before .before .before .before .before .before .before .before .before .pre .1 .0 .0 in (
-      sym (not-true _ (c .before .before .before .before .if1 .taken)) ∙ damped-finite (c .before .before .before .before .before .before .before .before .before .before .before .before .before .before .before .before .before .before .before .before .before .before .before .before .before .before .before .before .before .args .n) (take (c .before .before .before .before .before .before .before .before .before .before .before .before .before .before .before .before .before .before .before .before .before .before .before .before .before .before .before .before .before .args .n) (c .before .before .before .before .before .before .before .before .before .before .before .before .before .before .before .before .before .before .before .before .before .before .before .before .before .before .before .before .before .args .order .now)) (c .before .before .before .before .before .before .before .before .before .before .before .before .before .before .before .before .before .before .before .before .before .before .before .before .before .before .before .before .before .args .diag .now) (c .before .before .before .before .before .before .before .before .before .before .before .before .before .before .before .before .before .before .before .before .before .before .before .before .before .before .before .before .before .args .store .now) (c .before .before .before .before .before .before .before .before .before .before .before .before .before .before .before .before .before .before .before .before .gather-into .last .1 .1 .1 .0) (c .before .before .before .before .before .before .before .before .before .before .before .before .before .damped-step .last .1 .0) (c .before .before .before .before .before .before .before .before .before .before .before .before .before .damped-step .last .1 .1 .1 .1 .0) (c .before .before .before .before .before .before .before .before .before .before .before .before .before .before .before .before .before .before .before .before .gather-into .ensures) (c .before .before .before .before .before .before .before .before .before .before .before .before .before .damped-step .ensures .0) (c .before .before .before .before .before .before .before .before .before .before .before .before .before .damped-step .ensures .1) l (c .before .before .before .before .before .all-finite .ensures),
-      (damped-emptied (c .before .before .before .before .before .before .before .before .before .before .before .before .before .before .before .before .before .before .before .before .before .before .before .before .before .before .before .before .before .args .n) (take (c .before .before .before .before .before .before .before .before .before .before .before .before .before .before .before .before .before .before .before .before .before .before .before .before .before .before .before .before .before .args .n) (c .before .before .before .before .before .before .before .before .before .before .before .before .before .before .before .before .before .before .before .before .before .before .before .before .before .before .before .before .before .args .order .now)) (c .before .before .before .before .before .before .before .before .before .before .before .before .before .before .before .before .before .before .before .before .before .before .before .before .before .before .before .before .before .args .diag .now) (c .before .before .before .before .before .before .before .before .before .before .before .before .before .before .before .before .before .before .before .before .before .before .before .before .before .before .before .before .before .args .store .now) (c .before .before .before .before .before .before .before .before .before .before .before .before .before .before .before .before .before .before .before .before .gather-into .last .1 .1 .1 .0) (c .before .before .before .before .before .before .before .before .before .before .before .before .before .damped-step .last .1 .0) (c .before .before .before .before .before .before .before .before .before .before .before .before .before .damped-step .last .1 .1 .1 .1 .0) (c .before .before .before .before .before .before .before .before .before .before .before .before .before .before .before .before .before .before .before .before .gather-into .ensures) (c .before .before .before .before .before .before .before .before .before .before .before .before .before .damped-step .ensures .0) (c .before .before .before .before .before .before .before .before .before .before .before .before .before .damped-step .ensures .1) (c .before .before .before .before .before .before .before .before .before .before .before .before .before .before .before .before .before .before .before .before .before .before .before .before .before .before .before .before .before .pre .0) (record { small = c .before .before .before .before .before .before .before .before .before .before .before .before .before .before .before .before .before .before .before .before .before .before .before .before .before .before .before .before .before .pre .0 .small; fits = rw (c .before .before .before .before .before .before .before .before .before .before .before .before .before .damped-step .kept .1 .0) (c .before .before .before .before .before .before .before .before .before .before .before .before .before .before .before .before .before .before .before .before .before .before .before .before .before .before .before .before .before .pre .0 .fits) }) (c .before .before .empty-room .ensures), refl),
+    let g = c .before .before .before .before .before .before .before .before .before .before .before .before .before .before .before .before .before .before .before .before .before .before .before .before .before .before .before .before .before .args in
+    let x = c .before .before .before .before .before .before .before .before .before .before .before .before .before .damped-step in
+    let y = c .before .before .before .before .before .before .before .before .before .before .before .before .before .before .before .before .before .before .before .before .gather-into in
+    let z = c .before .before .before .before .before .before .before .before .before .before .before .before .before .before .before .before .before .before .before .before .before .before .before .before .before .before .before .before .before .pre .0 .1 in (
+      sym (not-true _ (c .before .before .before .before .if1 .taken)) ∙ damped-finite (g .n) (take (g .n) (g .order .now)) (g .diag .now) (g .store .now) (y .last .1 .1 .1 .0) (x .last .1 .0) (x .last .1 .1 .1 .1 .0) (y .ensures) (x .ensures .0) (x .ensures .1) (c .before .before .before .before .before .all-finite .ensures),
+      (damped-emptied (g .n) (take (g .n) (g .order .now)) (g .diag .now) (g .store .now) (y .last .1 .1 .1 .0) (x .last .1 .0) (x .last .1 .1 .1 .1 .0) (y .ensures) (x .ensures .0) (x .ensures .1) z (record { small = z .small; fits = rw (x .kept .1 .0) (z .fits) }) (c .before .before .empty-room .ensures), refl),
     )
 
 scatter-into-requires : tie.Need-scatter-into-requires
@@ -58,8 +61,12 @@ same-length-9 c = search needs
 
 returns-2 : tie.Need-returns-2
 returns-2 c =
-    let l = c .before .before .before .before .before .before .before .before .before .before .before .before .before .before .damped-step .kept .1 .1 .1 .1 .0 ∙ c .before .before .before .before .before .before .before .before .before .before .before .before .before .before .before .before .before .before .before .before .before .before .before .before .before .before .before .before .before .before .pre .1 .0 .0 in
-    (sym (not-false _ (c .before .before .before .before .before .if1 .left)) ∙ damped-finite (c .before .before .before .before .before .before .before .before .before .before .before .before .before .before .before .before .before .before .before .before .before .before .before .before .before .before .before .before .before .before .args .n) (take (c .before .before .before .before .before .before .before .before .before .before .before .before .before .before .before .before .before .before .before .before .before .before .before .before .before .before .before .before .before .before .args .n) (c .before .before .before .before .before .before .before .before .before .before .before .before .before .before .before .before .before .before .before .before .before .before .before .before .before .before .before .before .before .before .args .order .now)) (c .before .before .before .before .before .before .before .before .before .before .before .before .before .before .before .before .before .before .before .before .before .before .before .before .before .before .before .before .before .before .args .diag .now) (c .before .before .before .before .before .before .before .before .before .before .before .before .before .before .before .before .before .before .before .before .before .before .before .before .before .before .before .before .before .before .args .store .now) (c .before .before .before .before .before .before .before .before .before .before .before .before .before .before .before .before .before .before .before .before .before .gather-into .last .1 .1 .1 .0) (c .before .before .before .before .before .before .before .before .before .before .before .before .before .before .damped-step .last .1 .0) (c .before .before .before .before .before .before .before .before .before .before .before .before .before .before .damped-step .last .1 .1 .1 .1 .0) (c .before .before .before .before .before .before .before .before .before .before .before .before .before .before .before .before .before .before .before .before .before .gather-into .ensures) (c .before .before .before .before .before .before .before .before .before .before .before .before .before .before .damped-step .ensures .0) (c .before .before .before .before .before .before .before .before .before .before .before .before .before .before .damped-step .ensures .1) l (c .before .before .before .before .before .before .all-finite .ensures), (damped-store (c .before .before .before .before .before .before .before .before .before .before .before .before .before .before .before .before .before .before .before .before .before .before .before .before .before .before .before .before .before .before .args .n) (take (c .before .before .before .before .before .before .before .before .before .before .before .before .before .before .before .before .before .before .before .before .before .before .before .before .before .before .before .before .before .before .args .n) (c .before .before .before .before .before .before .before .before .before .before .before .before .before .before .before .before .before .before .before .before .before .before .before .before .before .before .before .before .before .before .args .order .now)) (c .before .before .before .before .before .before .before .before .before .before .before .before .before .before .before .before .before .before .before .before .before .before .before .before .before .before .before .before .before .before .args .diag .now) (c .before .before .before .before .before .before .before .before .before .before .before .before .before .before .before .before .before .before .before .before .before .before .before .before .before .before .before .before .before .before .args .store .now) (c .before .before .before .before .before .before .before .before .before .before .before .before .before .before .before .before .before .before .before .before .before .gather-into .last .1 .1 .1 .0) (c .before .before .before .before .before .before .before .before .before .before .before .before .before .before .damped-step .last .1 .0) (c .before .before .before .before .before .before .before .before .before .before .before .before .before .before .damped-step .last .1 .1 .1 .1 .0) (c .before .before .before .before .before .before .before .before .before .before .before .before .before .before .before .before .before .before .before .before .before .gather-into .ensures) (c .before .before .before .before .before .before .before .before .before .before .before .before .before .before .damped-step .ensures .0) (c .before .before .before .before .before .before .before .before .before .before .before .before .before .before .damped-step .ensures .1), damped-out (c .before .before .before .before .before .before .before .before .before .before .before .before .before .before .before .before .before .before .before .before .before .before .before .before .before .before .before .before .before .before .args .n) (take (c .before .before .before .before .before .before .before .before .before .before .before .before .before .before .before .before .before .before .before .before .before .before .before .before .before .before .before .before .before .before .args .n) (c .before .before .before .before .before .before .before .before .before .before .before .before .before .before .before .before .before .before .before .before .before .before .before .before .before .before .before .before .before .before .args .order .now)) (c .before .before .before .before .before .before .before .before .before .before .before .before .before .before .before .before .before .before .before .before .before .before .before .before .before .before .before .before .before .before .args .diag .now) (c .before .before .before .before .before .before .before .before .before .before .before .before .before .before .before .before .before .before .before .before .before .before .before .before .before .before .before .before .before .before .args .store .now) (c .before .before .before .before .before .before .before .before .before .before .before .before .before .before .before .before .before .before .before .before .before .gather-into .last .1 .1 .1 .0) (c .before .before .before .before .before .before .before .before .before .before .before .before .before .before .damped-step .last .1 .0) (c .before .before .before .before .before .before .before .before .before .before .before .before .before .before .damped-step .last .1 .1 .1 .1 .0) (c .before .before .before .before .before .before .before .before .before .before .before .before .before .before .before .before .before .before .before .before .before .gather-into .ensures) (c .before .before .before .before .before .before .before .before .before .before .before .before .before .before .damped-step .ensures .0) (c .before .before .before .before .before .before .before .before .before .before .before .before .before .before .damped-step .ensures .1) (c .before .before .before .before .before .before .before .before .before .before .before .before .before .before .before .before .before .before .before .before .before .before .before .before .before .before .before .before .before .before .args .out .now) (c .before .before .scatter-into .ensures)))
+    let g = c .before .before .before .before .before .before .before .before .before .before .before .before .before .before .before .before .before .before .before .before .before .before .before .before .before .before .before .before .before .before .args in
+    let x = c .before .before .before .before .before .before .before .before .before .before .before .before .before .before .damped-step in
+    let y = c .before .before .before .before .before .before .before .before .before .before .before .before .before .before .before .before .before .before .before .before .before .gather-into in (
+      sym (not-false _ (c .before .before .before .before .before .if1 .left)) ∙ damped-finite (g .n) (take (g .n) (g .order .now)) (g .diag .now) (g .store .now) (y .last .1 .1 .1 .0) (x .last .1 .0) (x .last .1 .1 .1 .1 .0) (y .ensures) (x .ensures .0) (x .ensures .1) (c .before .before .before .before .before .before .all-finite .ensures),
+      (damped-store (g .n) (take (g .n) (g .order .now)) (g .diag .now) (g .store .now) (y .last .1 .1 .1 .0) (x .last .1 .0) (x .last .1 .1 .1 .1 .0) (y .ensures) (x .ensures .0) (x .ensures .1), damped-out (g .n) (take (g .n) (g .order .now)) (g .diag .now) (g .store .now) (y .last .1 .1 .1 .0) (x .last .1 .0) (x .last .1 .1 .1 .1 .0) (y .ensures) (x .ensures .0) (x .ensures .1) (g .out .now) (c .before .before .scatter-into .ensures)),
+    )
 
 pub damped-finite-spec : {M : Type 1} → statement M
 damped-finite-spec =

@@ -1,5 +1,5 @@
 -- `factor::least_squares::damped_step` meets its contract. Assumes nothing.
-use Prim.Native.Nat.{_+_, _*_}
+use Prim.Native.Nat.{_*_}
 use mathlib.Core.Path.{sym, _∙_}
 use borrow.Author.Needs.{needs}
 use mathlib.Core.List.{_++_}
@@ -15,23 +15,29 @@ copy-part-requires c κs = search needs
 mul-nn : tie.Need-mul-nn
 mul-nn c = search needs
 
-slice-relend-prefix-eliminate : tie.Need-slice-relend-prefix-eliminate
-slice-relend-prefix-eliminate c = search needs
+slice-relend-prefix-eliminate-diag : tie.Need-slice-relend-prefix-eliminate-diag
+slice-relend-prefix-eliminate-diag c = search needs
 
-slice-aggregate-eliminate : tie.Need-slice-aggregate-eliminate
-slice-aggregate-eliminate c = sym (square-of (c .before .before .before .before .before .before .before .before .before .before .args .n) (c .before .before .before .before .before .before .before .before .before .before .args .store .now) (c .before .before .before .before .before .before .before .before .before .before .pre .0) .whole)
+slice-aggregate-eliminate-diag : tie.Need-slice-aggregate-eliminate-diag
+slice-aggregate-eliminate-diag c = sym (square-of (c .before .before .before .before .before .before .before .before .before .before .args .n) (c .before .before .before .before .before .before .before .before .before .before .args .store .now) (c .before .before .before .before .before .before .before .before .before .before .pre .0 .1) .whole)
 
-eliminate-requires : tie.Need-eliminate-requires
-eliminate-requires c κs = (square-of (c .before .before .before .before .before .before .before .before .before .before .before .before .args .n) (c .before .before .before .before .before .before .before .before .before .before .before .before .args .store .now) (c .before .before .before .before .before .before .before .before .before .before .before .before .pre .0), (search needs, (search needs, search needs)))
+eliminate-diag-requires : tie.Need-eliminate-diag-requires
+eliminate-diag-requires c κs = search needs
 
 slice-reshare-prefix-backward-in : tie.Need-slice-reshare-prefix-backward-in
 slice-reshare-prefix-backward-in c = search needs
 
 slice-aggregate-backward-in : tie.Need-slice-aggregate-backward-in
-slice-aggregate-backward-in c = sym (square-of (c .before .before .before .before .before .before .before .before .before .before .before .before .before .before .before .before .before .before .before .before .args .n) (c .before .before .before .before .before .before .before .eliminate .last .0 ++ drop (c .before .before .before .before .before .before .before .before .before .before .before .before .before .before .before .before .before .before .before .before .args .n * c .before .before .before .before .before .before .before .before .before .before .before .before .before .before .before .before .before .before .before .before .args .n) (c .before .before .before .before .before .before .before .before .before .before .before .before .before .before .before .before .before .before .before .before .args .store .now)) (sized-lent (c .before .before .before .before .before .before .before .before .before .before .before .before .before .before .before .before .before .before .before .before .args .n) (c .before .before .before .before .before .before .before .eliminate .last .0) (c .before .before .before .before .before .before .before .before .before .before .before .before .before .before .before .before .before .before .before .before .args .store .now) (c .before .before .before .before .before .before .before .before .before .before .before .before .before .before .before .before .before .before .before .before .pre .0) (c .before .before .before .before .before .before .before .eliminate .kept .0)) .whole)
+slice-aggregate-backward-in c =
+    let g = c .before .before .before .before .before .before .before .before .before .before .before .before .before .before .before .before .before .before .before .before .args in
+    let x = c .before .before .before .before .before .before .before .eliminate-diag in
+    sym (square-of (g .n) (x .last .1 .0 ++ drop (g .n * g .n) (g .store .now)) (sized-lent (g .n) (x .last .1 .0) (g .store .now) (c .before .before .before .before .before .before .before .before .before .before .before .before .before .before .before .before .before .before .before .before .pre .0 .1) (x .kept .1 .0)) .whole)
 
 backward-in-requires : tie.Need-backward-in-requires
-backward-in-requires c κs = (square-of (c .before .before .before .before .before .before .before .before .before .before .before .before .before .before .before .before .before .before .before .before .before .before .args .n) (c .before .before .before .before .before .before .before .before .before .eliminate .last .0 ++ drop (c .before .before .before .before .before .before .before .before .before .before .before .before .before .before .before .before .before .before .before .before .before .before .args .n * c .before .before .before .before .before .before .before .before .before .before .before .before .before .before .before .before .before .before .before .before .before .before .args .n) (c .before .before .before .before .before .before .before .before .before .before .before .before .before .before .before .before .before .before .before .before .before .before .args .store .now)) (sized-lent (c .before .before .before .before .before .before .before .before .before .before .before .before .before .before .before .before .before .before .before .before .before .before .args .n) (c .before .before .before .before .before .before .before .before .before .eliminate .last .0) (c .before .before .before .before .before .before .before .before .before .before .before .before .before .before .before .before .before .before .before .before .before .before .args .store .now) (c .before .before .before .before .before .before .before .before .before .before .before .before .before .before .before .before .before .before .before .before .before .before .pre .0) (c .before .before .before .before .before .before .before .before .before .eliminate .kept .0)), (search needs, search needs))
+backward-in-requires c κs =
+    let g = c .before .before .before .before .before .before .before .before .before .before .before .before .before .before .before .before .before .before .before .before .before .before .args in
+    let x = c .before .before .before .before .before .before .before .before .before .eliminate-diag in
+    (square-of (g .n) (x .last .1 .0 ++ drop (g .n * g .n) (g .store .now)) (sized-lent (g .n) (x .last .1 .0) (g .store .now) (c .before .before .before .before .before .before .before .before .before .before .before .before .before .before .before .before .before .before .before .before .before .before .pre .0 .1) (x .kept .1 .0)), (search needs, search needs))
 
 put-damped-requires : tie.Need-put-damped-requires
 put-damped-requires c κs = search needs
@@ -47,9 +53,12 @@ same-length-3 c = search needs
 
 returns : tie.Need-returns
 returns c =
-    let l = c .before .before .before .before .before .before .before .before .before .before .before .before .before .before .before .before .before .eliminate .kept .1 .1 .1 .1 .0 ∙ c .before .before .before .before .before .before .before .before .before .before .before .before .before .before .before .before .before .before .before .before .before .before .before .before .before .before .before .before .before .before .pre .1 .1 .0 in (
-      room-left (c .before .before .before .before .before .before .before .before .before .before .before .before .before .before .before .before .before .before .before .before .before .before .before .before .before .before .before .before .before .before .args .n) (c .before .before .before .before .before .before .before .before .before .before .before .before .before .before .before .before .before .before .before .before .before .before .before .before .before .before .before .before .before .before .args .ds .now) (c .before .before .before .before .before .before .before .before .before .before .before .before .before .before .before .before .before .before .before .before .before .before .before .before .before .before .before .before .before .before .args .store .now) (c .before .before .before .before .before .before .before .before .before .before .before .before .before .before .before .before .before .eliminate .last .0) (c .before .before .before .before .before .before .before .before .before .before .before .before .before .before .before .before .before .before .before .before .before .before .before .copy-part .last .1 .1 .1 .0) (c .before .before .before .before .before .before .before .before .before .before .before .before .before .before .before .before .before .eliminate .last .1 .1 .1 .0) (c .before .before .before .before .before .before .before .before .before .before .before .before .before .before .before .before .before .eliminate .last .1 .1 .1 .1 .0) (c .before .before .before .before .before .before .before .before .before .before .before .before .before .before .before .before .before .before .before .before .before .before .before .before .before .before .before .before .before .before .pre .0) (c .before .before .before .before .before .before .before .before .before .before .before .before .before .before .before .before .before .eliminate .kept .0) (c .before .before .before .before .before .before .before .before .before .before .before .before .before .before .before .before .before .before .before .before .before .before .before .copy-part .ensures) (c .before .before .before .before .before .before .before .before .before .before .before .before .before .before .before .before .before .eliminate .ensures) l (c .before .before .put-damped .ensures),
-      step-left (c .before .before .before .before .before .before .before .before .before .before .before .before .before .before .before .before .before .before .before .before .before .before .before .before .before .before .before .before .before .before .args .n) (c .before .before .before .before .before .before .before .before .before .before .before .before .before .before .before .before .before .before .before .before .before .before .before .before .before .before .before .before .before .before .args .ds .now) (c .before .before .before .before .before .before .before .before .before .before .before .before .before .before .before .before .before .before .before .before .before .before .before .before .before .before .before .before .before .before .args .store .now) (c .before .before .before .before .before .before .before .before .before .before .before .before .before .before .before .before .before .eliminate .last .0) (c .before .before .before .before .before .before .before .before .before .before .before .before .before .before .before .before .before .before .before .before .before .before .before .copy-part .last .1 .1 .1 .0) (c .before .before .before .before .before .before .before .before .before .before .before .before .before .before .before .before .before .eliminate .last .1 .1 .1 .0) (c .before .before .before .before .before .before .before .before .before .before .before .before .before .before .before .before .before .eliminate .last .1 .1 .1 .1 .0) (c .before .before .before .before .before .before .before .before .before .before .before .before .before .before .before .before .before .before .before .before .before .before .before .before .before .before .before .before .before .before .pre .0) (c .before .before .before .before .before .before .before .before .before .before .before .before .before .before .before .before .before .eliminate .kept .0) (c .before .before .before .before .before .before .before .before .before .before .before .before .before .before .before .before .before .before .before .before .before .before .before .copy-part .ensures) (c .before .before .before .before .before .before .before .before .before .before .before .before .before .before .before .before .before .eliminate .ensures) (c .before .before .before .before .before .before .before .backward-in .ensures),
+    let g = c .before .before .before .before .before .before .before .before .before .before .before .before .before .before .before .before .before .before .before .before .before .before .before .before .before .before .before .before .before .before .args in
+    let p = c .before .before .before .before .before .before .before .before .before .before .before .before .before .before .before .before .before .before .before .before .before .before .before .before .before .before .before .before .before .before .pre in
+    let x = c .before .before .before .before .before .before .before .before .before .before .before .before .before .before .before .before .before .eliminate-diag in
+    let y = c .before .before .before .before .before .before .before .before .before .before .before .before .before .before .before .before .before .before .before .before .before .before .before .copy-part in (
+      room-left (g .n) (g .ds .now) (g .store .now) (x .last .1 .0) (y .last .1 .1 .1 .0) (x .last .1 .1 .1 .0) (g .ldiag .now) (x .last .1 .1 .1 .1 .0) (p .0) (p .1 .0) (p .1 .1 .0) (x .kept .1 .0) (y .ensures) (x .ensures) (x .kept .1 .1 .1 .1 .0 ∙ p .1 .1 .0) (c .before .before .put-damped .ensures),
+      step-left (g .n) (g .ds .now) (g .store .now) (x .last .1 .0) (y .last .1 .1 .1 .0) (x .last .1 .1 .1 .0) (g .ldiag .now) (x .last .1 .1 .1 .1 .0) (p .0) (p .1 .0) (p .1 .1 .0) (x .kept .1 .0) (y .ensures) (x .ensures) (c .before .before .before .before .before .before .before .backward-in .ensures),
     )
 
 pub damped-step-spec : {M : Type 1} → statement M
@@ -58,9 +67,9 @@ damped-step-spec =
     (tie.spec
     copy-part-requires
     mul-nn
-    slice-relend-prefix-eliminate
-    slice-aggregate-eliminate
-    eliminate-requires
+    slice-relend-prefix-eliminate-diag
+    slice-aggregate-eliminate-diag
+    eliminate-diag-requires
     slice-reshare-prefix-backward-in
     slice-aggregate-backward-in
     backward-in-requires

@@ -1,10 +1,11 @@
 -- `factor::least_squares::solve_with_diagonal` meets its contract. Assumes nothing.
-use mathlib.Core.Path.{refl, sym}
+use mathlib.Core.Path.{sym}
 use native.Mathlib.Omega.{arith}
 use borrow.Author.Needs.{needs}
 use Prim.Native.Nat.{min}
 use lib.ListN.{length}
-use Rattle.factor.proofs.Outcomes.{tests-before, sixteen-fits, sixteen-front, cols-few, store-sized, each-long, order-long, order-below, damped-call-refused, damped-call-answered, damped-call-broken}
+use Rattle.leaves.proofs.Overs.{lent-fits, lent-long}
+use Rattle.factor.proofs.least_squares.Outcomes.{solvable-before, damped-call-refused, damped-call-answered, damped-call-broken}
 use Rattle.factor.proofs.least_squares.solve_with_diagonal.Statement.{statement}
 use Rattle.factor.proofs.least_squares.solve_with_diagonal.Tie as tie
 
@@ -12,7 +13,9 @@ check-damped-requires : tie.Need-check-damped-requires
 check-damped-requires c κs = search needs
 
 returns : tie.Need-returns
-returns c = damped-call-refused (c .before .before .before .before .before .before .args .st) (c .before .before .before .before .before .before .args .diag .now) (c .before .before .before .before .before .before .args .order .now) (c .before .before .before .before .before .before .args .store .now) (c .before .before .before .before .before .before .args .out .now) (c .before .check-damped .ensures) (c .if1 .taken)
+returns c =
+    let g = c .before .before .before .before .before .before .args in
+    damped-call-refused (g .st) (g .diag .now) (g .order .now) (g .store .now) (g .out .now) (c .before .check-damped .ensures) (c .if1 .taken)
 
 room16-requires : tie.Need-room16-requires
 room16-requires c κs = search needs
@@ -24,36 +27,45 @@ room16-requires-3 : tie.Need-room16-requires-3
 room16-requires-3 c κs = search needs
 
 array-borrow-prefix-ds : tie.Need-array-borrow-prefix-ds
-array-borrow-prefix-ds c = sixteen-fits (c .before .before .before .before .before .before .before .before .before .before .args .st .n) (c .before .before .before .room16 .ensures) (cols-few (c .before .before .before .before .before .before .before .before .before .before .args .st) (c .before .before .before .before .before .before .before .before .before .before .args .store .now) (c .before .before .before .before .before .before .before .before .before .before .args .order .now) (min (length (c .before .before .before .before .before .before .before .before .before .before .args .diag .now)) (length (c .before .before .before .before .before .before .before .before .before .before .args .out .now))) (tests-before (c .before .before .before .before .before .before .before .before .before .before .args .st) (length (c .before .before .before .before .before .before .before .before .before .before .args .store .now)) (c .before .before .before .before .before .before .before .before .before .before .args .order .now) (min (length (c .before .before .before .before .before .before .before .before .before .before .args .diag .now)) (length (c .before .before .before .before .before .before .before .before .before .before .args .out .now))) (c .before .before .before .before .before .before .before .before .before .before .args .diag .now) (c .before .before .before .before .before .check-damped .ensures) (c .before .before .before .before .if1 .left)) refl)
+array-borrow-prefix-ds c =
+    let g = c .before .before .before .before .before .before .before .before .before .before .args in
+    lent-fits (g .st .n) _ (c .before .before .before .room16 .ensures) (solvable-before (g .st) (g .store .now) (g .order .now) (min (length (g .diag .now)) (length (g .out .now))) (g .diag .now) (c .before .before .before .before .before .check-damped .ensures) (c .before .before .before .before .if1 .left) .few)
 
 slice-aggregate-damped-finite : tie.Need-slice-aggregate-damped-finite
-slice-aggregate-damped-finite c = sym (sixteen-front (c .before .before .before .before .before .before .before .before .before .before .before .args .st .n) (c .before .before .before .before .room16 .ensures) (cols-few (c .before .before .before .before .before .before .before .before .before .before .before .args .st) (c .before .before .before .before .before .before .before .before .before .before .before .args .store .now) (c .before .before .before .before .before .before .before .before .before .before .before .args .order .now) (min (length (c .before .before .before .before .before .before .before .before .before .before .before .args .diag .now)) (length (c .before .before .before .before .before .before .before .before .before .before .before .args .out .now))) (tests-before (c .before .before .before .before .before .before .before .before .before .before .before .args .st) (length (c .before .before .before .before .before .before .before .before .before .before .before .args .store .now)) (c .before .before .before .before .before .before .before .before .before .before .before .args .order .now) (min (length (c .before .before .before .before .before .before .before .before .before .before .before .args .diag .now)) (length (c .before .before .before .before .before .before .before .before .before .before .before .args .out .now))) (c .before .before .before .before .before .before .before .before .before .before .before .args .diag .now) (c .before .before .before .before .before .before .check-damped .ensures) (c .before .before .before .before .before .if1 .left)) refl))
+slice-aggregate-damped-finite c =
+    let g = c .before .before .before .before .before .before .before .before .before .before .before .args in
+    sym (lent-long (g .st .n) _ (c .before .before .before .before .room16 .ensures) (solvable-before (g .st) (g .store .now) (g .order .now) (min (length (g .diag .now)) (length (g .out .now))) (g .diag .now) (c .before .before .before .before .before .before .check-damped .ensures) (c .before .before .before .before .before .if1 .left) .few))
 
 array-borrow-prefix-ldiag : tie.Need-array-borrow-prefix-ldiag
-array-borrow-prefix-ldiag c = sixteen-fits (c .before .before .before .before .before .before .before .before .before .before .before .args .st .n) (c .before .before .before .room162 .ensures) (cols-few (c .before .before .before .before .before .before .before .before .before .before .before .args .st) (c .before .before .before .before .before .before .before .before .before .before .before .args .store .now) (c .before .before .before .before .before .before .before .before .before .before .before .args .order .now) (min (length (c .before .before .before .before .before .before .before .before .before .before .before .args .diag .now)) (length (c .before .before .before .before .before .before .before .before .before .before .before .args .out .now))) (tests-before (c .before .before .before .before .before .before .before .before .before .before .before .args .st) (length (c .before .before .before .before .before .before .before .before .before .before .before .args .store .now)) (c .before .before .before .before .before .before .before .before .before .before .before .args .order .now) (min (length (c .before .before .before .before .before .before .before .before .before .before .before .args .diag .now)) (length (c .before .before .before .before .before .before .before .before .before .before .before .args .out .now))) (c .before .before .before .before .before .before .before .before .before .before .before .args .diag .now) (c .before .before .before .before .before .before .check-damped .ensures) (c .before .before .before .before .before .if1 .left)) refl)
+array-borrow-prefix-ldiag c =
+    let g = c .before .before .before .before .before .before .before .before .before .before .before .args in
+    lent-fits (g .st .n) _ (c .before .before .before .room162 .ensures) (solvable-before (g .st) (g .store .now) (g .order .now) (min (length (g .diag .now)) (length (g .out .now))) (g .diag .now) (c .before .before .before .before .before .before .check-damped .ensures) (c .before .before .before .before .before .if1 .left) .few)
 
 slice-aggregate-damped-finite-2 : tie.Need-slice-aggregate-damped-finite-2
-slice-aggregate-damped-finite-2 c = sym (sixteen-front (c .before .before .before .before .before .before .before .before .before .before .before .before .args .st .n) (c .before .before .before .before .room162 .ensures) (cols-few (c .before .before .before .before .before .before .before .before .before .before .before .before .args .st) (c .before .before .before .before .before .before .before .before .before .before .before .before .args .store .now) (c .before .before .before .before .before .before .before .before .before .before .before .before .args .order .now) (min (length (c .before .before .before .before .before .before .before .before .before .before .before .before .args .diag .now)) (length (c .before .before .before .before .before .before .before .before .before .before .before .before .args .out .now))) (tests-before (c .before .before .before .before .before .before .before .before .before .before .before .before .args .st) (length (c .before .before .before .before .before .before .before .before .before .before .before .before .args .store .now)) (c .before .before .before .before .before .before .before .before .before .before .before .before .args .order .now) (min (length (c .before .before .before .before .before .before .before .before .before .before .before .before .args .diag .now)) (length (c .before .before .before .before .before .before .before .before .before .before .before .before .args .out .now))) (c .before .before .before .before .before .before .before .before .before .before .before .before .args .diag .now) (c .before .before .before .before .before .before .before .check-damped .ensures) (c .before .before .before .before .before .before .if1 .left)) refl))
+slice-aggregate-damped-finite-2 c =
+    let g = c .before .before .before .before .before .before .before .before .before .before .before .before .args in
+    sym (lent-long (g .st .n) _ (c .before .before .before .before .room162 .ensures) (solvable-before (g .st) (g .store .now) (g .order .now) (min (length (g .diag .now)) (length (g .out .now))) (g .diag .now) (c .before .before .before .before .before .before .before .check-damped .ensures) (c .before .before .before .before .before .before .if1 .left) .few))
 
 array-borrow-prefix-w : tie.Need-array-borrow-prefix-w
-array-borrow-prefix-w c = sixteen-fits (c .before .before .before .before .before .before .before .before .before .before .before .before .args .st .n) (c .before .before .before .room163 .ensures) (cols-few (c .before .before .before .before .before .before .before .before .before .before .before .before .args .st) (c .before .before .before .before .before .before .before .before .before .before .before .before .args .store .now) (c .before .before .before .before .before .before .before .before .before .before .before .before .args .order .now) (min (length (c .before .before .before .before .before .before .before .before .before .before .before .before .args .diag .now)) (length (c .before .before .before .before .before .before .before .before .before .before .before .before .args .out .now))) (tests-before (c .before .before .before .before .before .before .before .before .before .before .before .before .args .st) (length (c .before .before .before .before .before .before .before .before .before .before .before .before .args .store .now)) (c .before .before .before .before .before .before .before .before .before .before .before .before .args .order .now) (min (length (c .before .before .before .before .before .before .before .before .before .before .before .before .args .diag .now)) (length (c .before .before .before .before .before .before .before .before .before .before .before .before .args .out .now))) (c .before .before .before .before .before .before .before .before .before .before .before .before .args .diag .now) (c .before .before .before .before .before .before .before .check-damped .ensures) (c .before .before .before .before .before .before .if1 .left)) refl)
+array-borrow-prefix-w c =
+    let g = c .before .before .before .before .before .before .before .before .before .before .before .before .args in
+    lent-fits (g .st .n) _ (c .before .before .before .room163 .ensures) (solvable-before (g .st) (g .store .now) (g .order .now) (min (length (g .diag .now)) (length (g .out .now))) (g .diag .now) (c .before .before .before .before .before .before .before .check-damped .ensures) (c .before .before .before .before .before .before .if1 .left) .few)
 
 slice-aggregate-damped-finite-3 : tie.Need-slice-aggregate-damped-finite-3
-slice-aggregate-damped-finite-3 c = sym (sixteen-front (c .before .before .before .before .before .before .before .before .before .before .before .before .before .args .st .n) (c .before .before .before .before .room163 .ensures) (cols-few (c .before .before .before .before .before .before .before .before .before .before .before .before .before .args .st) (c .before .before .before .before .before .before .before .before .before .before .before .before .before .args .store .now) (c .before .before .before .before .before .before .before .before .before .before .before .before .before .args .order .now) (min (length (c .before .before .before .before .before .before .before .before .before .before .before .before .before .args .diag .now)) (length (c .before .before .before .before .before .before .before .before .before .before .before .before .before .args .out .now))) (tests-before (c .before .before .before .before .before .before .before .before .before .before .before .before .before .args .st) (length (c .before .before .before .before .before .before .before .before .before .before .before .before .before .args .store .now)) (c .before .before .before .before .before .before .before .before .before .before .before .before .before .args .order .now) (min (length (c .before .before .before .before .before .before .before .before .before .before .before .before .before .args .diag .now)) (length (c .before .before .before .before .before .before .before .before .before .before .before .before .before .args .out .now))) (c .before .before .before .before .before .before .before .before .before .before .before .before .before .args .diag .now) (c .before .before .before .before .before .before .before .before .check-damped .ensures) (c .before .before .before .before .before .before .before .if1 .left)) refl))
+slice-aggregate-damped-finite-3 c =
+    let g = c .before .before .before .before .before .before .before .before .before .before .before .before .before .args in
+    sym (lent-long (g .st .n) _ (c .before .before .before .before .room163 .ensures) (solvable-before (g .st) (g .store .now) (g .order .now) (min (length (g .diag .now)) (length (g .out .now))) (g .diag .now) (c .before .before .before .before .before .before .before .before .check-damped .ensures) (c .before .before .before .before .before .before .before .if1 .left) .few))
 
 damped-finite-requires : tie.Need-damped-finite-requires
 damped-finite-requires c κs =
-    let s = each-long (c .before .before .before .before .before .before .before .before .before .before .before .before .before .before .args .st) (c .before .before .before .before .before .before .before .before .before .before .before .before .before .before .args .store .now) (c .before .before .before .before .before .before .before .before .before .before .before .before .before .before .args .order .now) (min (length (c .before .before .before .before .before .before .before .before .before .before .before .before .before .before .args .diag .now)) (length (c .before .before .before .before .before .before .before .before .before .before .before .before .before .before .args .out .now))) (tests-before (c .before .before .before .before .before .before .before .before .before .before .before .before .before .before .args .st) (length (c .before .before .before .before .before .before .before .before .before .before .before .before .before .before .args .store .now)) (c .before .before .before .before .before .before .before .before .before .before .before .before .before .before .args .order .now) (min (length (c .before .before .before .before .before .before .before .before .before .before .before .before .before .before .args .diag .now)) (length (c .before .before .before .before .before .before .before .before .before .before .before .before .before .before .args .out .now))) (c .before .before .before .before .before .before .before .before .before .before .before .before .before .before .args .diag .now) (c .before .before .before .before .before .before .before .before .before .check-damped .ensures) (c .before .before .before .before .before .before .before .before .if1 .left)) refl in (
-      store-sized (c .before .before .before .before .before .before .before .before .before .before .before .before .before .before .args .st) (c .before .before .before .before .before .before .before .before .before .before .before .before .before .before .args .store .now) (c .before .before .before .before .before .before .before .before .before .before .before .before .before .before .args .order .now) (min (length (c .before .before .before .before .before .before .before .before .before .before .before .before .before .before .args .diag .now)) (length (c .before .before .before .before .before .before .before .before .before .before .before .before .before .before .args .out .now))) (tests-before (c .before .before .before .before .before .before .before .before .before .before .before .before .before .before .args .st) (length (c .before .before .before .before .before .before .before .before .before .before .before .before .before .before .args .store .now)) (c .before .before .before .before .before .before .before .before .before .before .before .before .before .before .args .order .now) (min (length (c .before .before .before .before .before .before .before .before .before .before .before .before .before .before .args .diag .now)) (length (c .before .before .before .before .before .before .before .before .before .before .before .before .before .before .args .out .now))) (c .before .before .before .before .before .before .before .before .before .before .before .before .before .before .args .diag .now) (c .before .before .before .before .before .before .before .before .before .check-damped .ensures) (c .before .before .before .before .before .before .before .before .if1 .left)) refl,
+    let g = c .before .before .before .before .before .before .before .before .before .before .before .before .before .before .args in
+    let p = solvable-before (g .st) (g .store .now) (g .order .now) (min (length (g .diag .now)) (length (g .out .now))) (g .diag .now) (c .before .before .before .before .before .before .before .before .before .check-damped .ensures) (c .before .before .before .before .before .before .before .before .if1 .left) in
+    let l = p .each-long in
+    let few = p .few in (
+      (p .some, p .sized),
       (
-        (sixteen-front (c .before .before .before .before .before .before .before .before .before .before .before .before .before .before .args .st .n) (c .before .before .before .before .before .room163 .ensures) (cols-few (c .before .before .before .before .before .before .before .before .before .before .before .before .before .before .args .st) (c .before .before .before .before .before .before .before .before .before .before .before .before .before .before .args .store .now) (c .before .before .before .before .before .before .before .before .before .before .before .before .before .before .args .order .now) (min (length (c .before .before .before .before .before .before .before .before .before .before .before .before .before .before .args .diag .now)) (length (c .before .before .before .before .before .before .before .before .before .before .before .before .before .before .args .out .now))) (tests-before (c .before .before .before .before .before .before .before .before .before .before .before .before .before .before .args .st) (length (c .before .before .before .before .before .before .before .before .before .before .before .before .before .before .args .store .now)) (c .before .before .before .before .before .before .before .before .before .before .before .before .before .before .args .order .now) (min (length (c .before .before .before .before .before .before .before .before .before .before .before .before .before .before .args .diag .now)) (length (c .before .before .before .before .before .before .before .before .before .before .before .before .before .before .args .out .now))) (c .before .before .before .before .before .before .before .before .before .before .before .before .before .before .args .diag .now) (c .before .before .before .before .before .before .before .before .before .check-damped .ensures) (c .before .before .before .before .before .before .before .before .if1 .left)) refl), omega arith),
-        (
-          order-long (c .before .before .before .before .before .before .before .before .before .before .before .before .before .before .args .st) (c .before .before .before .before .before .before .before .before .before .before .before .before .before .before .args .store .now) (c .before .before .before .before .before .before .before .before .before .before .before .before .before .before .args .order .now) (min (length (c .before .before .before .before .before .before .before .before .before .before .before .before .before .before .args .diag .now)) (length (c .before .before .before .before .before .before .before .before .before .before .before .before .before .before .args .out .now))) (tests-before (c .before .before .before .before .before .before .before .before .before .before .before .before .before .before .args .st) (length (c .before .before .before .before .before .before .before .before .before .before .before .before .before .before .args .store .now)) (c .before .before .before .before .before .before .before .before .before .before .before .before .before .before .args .order .now) (min (length (c .before .before .before .before .before .before .before .before .before .before .before .before .before .before .args .diag .now)) (length (c .before .before .before .before .before .before .before .before .before .before .before .before .before .before .args .out .now))) (c .before .before .before .before .before .before .before .before .before .before .before .before .before .before .args .diag .now) (c .before .before .before .before .before .before .before .before .before .check-damped .ensures) (c .before .before .before .before .before .before .before .before .if1 .left)) refl,
-          (
-            order-below (c .before .before .before .before .before .before .before .before .before .before .before .before .before .before .args .st) (c .before .before .before .before .before .before .before .before .before .before .before .before .before .before .args .store .now) (c .before .before .before .before .before .before .before .before .before .before .before .before .before .before .args .order .now) (min (length (c .before .before .before .before .before .before .before .before .before .before .before .before .before .before .args .diag .now)) (length (c .before .before .before .before .before .before .before .before .before .before .before .before .before .before .args .out .now))) (tests-before (c .before .before .before .before .before .before .before .before .before .before .before .before .before .before .args .st) (length (c .before .before .before .before .before .before .before .before .before .before .before .before .before .before .args .store .now)) (c .before .before .before .before .before .before .before .before .before .before .before .before .before .before .args .order .now) (min (length (c .before .before .before .before .before .before .before .before .before .before .before .before .before .before .args .diag .now)) (length (c .before .before .before .before .before .before .before .before .before .before .before .before .before .before .args .out .now))) (c .before .before .before .before .before .before .before .before .before .before .before .before .before .before .args .diag .now) (c .before .before .before .before .before .before .before .before .before .check-damped .ensures) (c .before .before .before .before .before .before .before .before .if1 .left)) refl,
-            (sixteen-front (c .before .before .before .before .before .before .before .before .before .before .before .before .before .before .args .st .n) (c .before .before .before .before .before .before .before .room16 .ensures) (cols-few (c .before .before .before .before .before .before .before .before .before .before .before .before .before .before .args .st) (c .before .before .before .before .before .before .before .before .before .before .before .before .before .before .args .store .now) (c .before .before .before .before .before .before .before .before .before .before .before .before .before .before .args .order .now) (min (length (c .before .before .before .before .before .before .before .before .before .before .before .before .before .before .args .diag .now)) (length (c .before .before .before .before .before .before .before .before .before .before .before .before .before .before .args .out .now))) (tests-before (c .before .before .before .before .before .before .before .before .before .before .before .before .before .before .args .st) (length (c .before .before .before .before .before .before .before .before .before .before .before .before .before .before .args .store .now)) (c .before .before .before .before .before .before .before .before .before .before .before .before .before .before .args .order .now) (min (length (c .before .before .before .before .before .before .before .before .before .before .before .before .before .before .args .diag .now)) (length (c .before .before .before .before .before .before .before .before .before .before .before .before .before .before .args .out .now))) (c .before .before .before .before .before .before .before .before .before .before .before .before .before .before .args .diag .now) (c .before .before .before .before .before .before .before .before .before .check-damped .ensures) (c .before .before .before .before .before .before .before .before .if1 .left)) refl), sixteen-front (c .before .before .before .before .before .before .before .before .before .before .before .before .before .before .args .st .n) (c .before .before .before .before .before .before .room162 .ensures) (cols-few (c .before .before .before .before .before .before .before .before .before .before .before .before .before .before .args .st) (c .before .before .before .before .before .before .before .before .before .before .before .before .before .before .args .store .now) (c .before .before .before .before .before .before .before .before .before .before .before .before .before .before .args .order .now) (min (length (c .before .before .before .before .before .before .before .before .before .before .before .before .before .before .args .diag .now)) (length (c .before .before .before .before .before .before .before .before .before .before .before .before .before .before .args .out .now))) (tests-before (c .before .before .before .before .before .before .before .before .before .before .before .before .before .before .args .st) (length (c .before .before .before .before .before .before .before .before .before .before .before .before .before .before .args .store .now)) (c .before .before .before .before .before .before .before .before .before .before .before .before .before .before .args .order .now) (min (length (c .before .before .before .before .before .before .before .before .before .before .before .before .before .before .args .diag .now)) (length (c .before .before .before .before .before .before .before .before .before .before .before .before .before .before .args .out .now))) (c .before .before .before .before .before .before .before .before .before .before .before .before .before .before .args .diag .now) (c .before .before .before .before .before .before .before .before .before .check-damped .ensures) (c .before .before .before .before .before .before .before .before .if1 .left)) refl), omega arith),
-          ),
-        ),
+        (lent-long (g .st .n) _ (c .before .before .before .before .before .room163 .ensures) few, omega arith),
+        (p .order-long, (p .order-below, (lent-long (g .st .n) _ (c .before .before .before .before .before .before .before .room16 .ensures) few, lent-long (g .st .n) _ (c .before .before .before .before .before .before .room162 .ensures) few, omega arith))),
       ),
     )
 
@@ -68,8 +80,9 @@ same-length-2 c = search needs
 
 returns-2 : tie.Need-returns-2
 returns-2 c =
-    damped-call-answered (c .before .before .before .before .before .before .before .before .before .before .before .before .before .before .before .before .before .before .before .before .before .before .before .before .args .st) (c .before .before .before .before .before .before .before .before .before .before .before .before .before .before .before .before .before .before .before .before .before .before .before .before .args .diag .now) (c .before .before .before .before .before .before .before .before .before .before .before .before .before .before .before .before .before .before .before .before .before .before .before .before .args .order .now) (c .before .before .before .before .before .before .before .before .before .before .before .before .before .before .before .before .before .before .before .before .before .before .before .before .args .store .now) (c .before .before .before .before .before .before .before .before .before .before .before .before .before .before .before .before .before .before .before .before .before .before .before .before .args .out .now) (c .before .before .before .before .before .before .before .before .before .before .before .before .before .before .before .before .before .before .before .check-damped .ensures) (c .before .before .before .before .before .before .before .before .before .before .before .before .before .before .before .before .before .before .if1 .left)
-    (c .before .before .before .before .before .before .before .before .before .damped-finite .ensures .0) (c .before .if2 .taken) (c .with-held .ensures) (c .before .before .before .before .before .before .before .before .before .damped-finite .ensures .1 .0) (c .before .before .before .before .before .before .before .before .before .damped-finite .ensures .1 .1)
+    let g = c .before .before .before .before .before .before .before .before .before .before .before .before .before .before .before .before .before .before .before .before .before .before .before .before .args in
+    let x = c .before .before .before .before .before .before .before .before .before .damped-finite in
+    damped-call-answered (g .st) (g .diag .now) (g .order .now) (g .store .now) (g .out .now) (c .before .before .before .before .before .before .before .before .before .before .before .before .before .before .before .before .before .before .before .check-damped .ensures) (c .before .before .before .before .before .before .before .before .before .before .before .before .before .before .before .before .before .before .if1 .left) (x .ensures .0) (c .before .if2 .taken) (c .with-held .ensures) (x .ensures .1 .0) (x .ensures .1 .1)
 
 with-held-requires-2 : tie.Need-with-held-requires-2
 with-held-requires-2 c κs = search needs
@@ -82,8 +95,9 @@ same-length-4 c = search needs
 
 returns-3 : tie.Need-returns-3
 returns-3 c =
-    damped-call-broken (c .before .before .before .before .before .before .before .before .before .before .before .before .before .before .before .before .before .before .before .before .before .before .before .before .args .st) (c .before .before .before .before .before .before .before .before .before .before .before .before .before .before .before .before .before .before .before .before .before .before .before .before .args .diag .now) (c .before .before .before .before .before .before .before .before .before .before .before .before .before .before .before .before .before .before .before .before .before .before .before .before .args .order .now) (c .before .before .before .before .before .before .before .before .before .before .before .before .before .before .before .before .before .before .before .before .before .before .before .before .args .store .now) (c .before .before .before .before .before .before .before .before .before .before .before .before .before .before .before .before .before .before .before .before .before .before .before .before .args .out .now) (c .before .before .before .before .before .before .before .before .before .before .before .before .before .before .before .before .before .before .before .check-damped .ensures) (c .before .before .before .before .before .before .before .before .before .before .before .before .before .before .before .before .before .before .if1 .left)
-    (c .before .before .before .before .before .before .before .before .before .damped-finite .ensures .0) (c .before .if2 .left) (c .with-held2 .ensures) (c .before .before .before .before .before .before .before .before .before .damped-finite .ensures .1 .0) (c .before .before .before .before .before .before .before .before .before .damped-finite .ensures .1 .1)
+    let g = c .before .before .before .before .before .before .before .before .before .before .before .before .before .before .before .before .before .before .before .before .before .before .before .before .args in
+    let x = c .before .before .before .before .before .before .before .before .before .damped-finite in
+    damped-call-broken (g .st) (g .diag .now) (g .order .now) (g .store .now) (g .out .now) (c .before .before .before .before .before .before .before .before .before .before .before .before .before .before .before .before .before .before .before .check-damped .ensures) (c .before .before .before .before .before .before .before .before .before .before .before .before .before .before .before .before .before .before .if1 .left) (x .ensures .0) (c .before .if2 .left) (c .with-held2 .ensures) (x .ensures .1 .0) (x .ensures .1 .1)
 
 pub solve-with-diagonal-spec : {M : Type 1} → statement M
 solve-with-diagonal-spec =

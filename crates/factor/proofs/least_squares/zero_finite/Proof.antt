@@ -21,8 +21,7 @@ same-length-2 c = search needs
 
 returns : tie.Need-returns
 returns c =
-    let l = c .before .before .before .before .before .before .before .zero-step .kept .1 .1 .1 .0 ∙ c .before .before .before .before .before .before .before .before .before .before .before .before .before .before .pre .1 .0 .0 in
-    (sym (not-true _ (c .if1 .taken)) ∙ finite-of (c .before .before .before .before .before .before .before .before .before .before .before .before .before .before .args .n) l (c .before .all-finite .ensures) (c .before .before .before .before .before .before .before .zero-step .ensures .0), (c .before .before .before .before .before .before .before .zero-step .ensures .1, refl))
+    (sym (not-true _ (c .if1 .taken)) ∙ finite-of (c .before .all-finite .ensures) (c .before .before .before .before .before .before .before .zero-step .ensures .0), (c .before .before .before .before .before .before .before .zero-step .ensures .1, refl))
 
 scatter-into-requires : tie.Need-scatter-into-requires
 scatter-into-requires c κs = let p = c .before .before .before .before .before .before .before .before .before .before .before .before .before .before .before .before .pre in (p .1 .1 .0, (p .1 .1 .1, (search needs, search needs)))
@@ -38,8 +37,7 @@ same-length-5 c = search needs
 
 returns-2 : tie.Need-returns-2
 returns-2 c =
-    let l = c .before .before .before .before .before .before .before .before .before .before .before .before .zero-step .kept .1 .1 .1 .0 ∙ c .before .before .before .before .before .before .before .before .before .before .before .before .before .before .before .before .before .before .before .pre .1 .0 .0 in
-    (sym (not-false _ (c .before .before .before .before .before .if1 .left)) ∙ finite-of (c .before .before .before .before .before .before .before .before .before .before .before .before .before .before .before .before .before .before .before .args .n) l (c .before .before .before .before .before .before .all-finite .ensures) (c .before .before .before .before .before .before .before .before .before .before .before .before .zero-step .ensures .0), (c .before .before .before .before .before .before .before .before .before .before .before .before .zero-step .ensures .1, scattered (take (c .before .before .before .before .before .before .before .before .before .before .before .before .before .before .before .before .before .before .before .args .n) (c .before .before .before .before .before .before .before .before .before .before .before .before .before .before .before .before .before .before .before .args .order .now)) (c .before .before .before .before .before .before .before .before .before .before .before .before .before .before .before .before .before .before .before .args .out .now) (c .before .before .scatter-into .ensures) (c .before .before .before .before .before .before .before .before .before .before .before .before .zero-step .ensures .0)))
+    (sym (not-false _ (c .before .before .before .before .before .if1 .left)) ∙ finite-of (c .before .before .before .before .before .before .all-finite .ensures) (c .before .before .before .before .before .before .before .before .before .before .before .before .zero-step .ensures .0), (c .before .before .before .before .before .before .before .before .before .before .before .before .zero-step .ensures .1, scattered (take (c .before .before .before .before .before .before .before .before .before .before .before .before .before .before .before .before .before .before .before .args .n) (c .before .before .before .before .before .before .before .before .before .before .before .before .before .before .before .before .before .before .before .args .order .now)) (c .before .before .before .before .before .before .before .before .before .before .before .before .before .before .before .before .before .before .before .args .out .now) (c .before .before .scatter-into .ensures) (c .before .before .before .before .before .before .before .before .before .before .before .before .zero-step .ensures .0)))
 
 pub zero-finite-spec : {M : Type 1} → statement M
 zero-finite-spec =

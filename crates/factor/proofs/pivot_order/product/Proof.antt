@@ -2,52 +2,47 @@
 use mathlib.Core.Path.{sym}
 use borrow.Author.Needs.{needs}
 use lib.ListN.{length}
-use Rattle.factor.proofs.PivotOrders.{each-long, front-long, store-sized, product-refused, product-written}
+use Rattle.factor.specs.PivotOrder.{productIn}
+use Rattle.factor.proofs.Lends.{each-long, front-long, store-sized, lent-refused, lent-written}
+use Rattle.factor.proofs.PivotOrders.{productOf}
 use Rattle.factor.proofs.pivot_order.product.Statement.{statement}
 use Rattle.factor.proofs.pivot_order.product.Tie as tie
 
-check-room-requires : tie.Need-check-room-requires
-check-room-requires c κs = search needs
+sizes-requires : tie.Need-sizes-requires
+sizes-requires c κs = search needs
 
 returns : tie.Need-returns
+unfolding productIn
 returns c =
     let g = c .before .before .before .before .args in
-    product-refused (g .st) (g .store .now) (g .w .now) (c .before .check-room .ensures) (c .if1 .taken)
+    lent-refused 1 (g .n) (g .store .now) (g .w .now) (productOf (g .n) (g .store .now)) (c .before .sizes .ensures) (c .if1 .taken)
 
-slice-relend-prefix-multiply : tie.Need-slice-relend-prefix-multiply
-slice-relend-prefix-multiply c =
+slice-relend-prefix-mul-zero : tie.Need-slice-relend-prefix-mul-zero
+slice-relend-prefix-mul-zero c =
     let g = c .before .before .before .before .args in
-    each-long (g .st) (g .store .now) (length (g .w .now)) (c .before .check-room .ensures) (c .if1 .left)
+    each-long 1 (g .n) (g .store .now) (length (g .w .now)) (c .before .sizes .ensures) (c .if1 .left)
 
-slice-aggregate-multiply : tie.Need-slice-aggregate-multiply
-slice-aggregate-multiply c =
+slice-aggregate-mul-zero : tie.Need-slice-aggregate-mul-zero
+slice-aggregate-mul-zero c =
     let g = c .before .before .before .before .before .args in
-    sym (front-long (g .st) (g .store .now) (g .w .now) (c .before .before .check-room .ensures) (c .before .if1 .left))
+    sym (front-long 1 (g .n) (g .store .now) (g .w .now) (c .before .before .sizes .ensures) (c .before .if1 .left))
 
-multiply-requires : tie.Need-multiply-requires
-multiply-requires c κs =
+mul-zero-requires : tie.Need-mul-zero-requires
+mul-zero-requires c κs =
     let g = c .before .before .before .before .before .args in
-    let e = c .before .before .check-room .ensures in
+    let e = c .before .before .sizes .ensures in
     let z = c .before .if1 .left in
-    (store-sized (g .st) (g .store .now) (length (g .w .now)) e z, front-long (g .st) (g .store .now) (g .w .now) e z)
+    (store-sized 1 (g .n) (g .store .now) (length (g .w .now)) e z, front-long 1 (g .n) (g .store .now) (g .w .now) e z)
 
 same-length : tie.Need-same-length
 same-length c = search needs
 
 returns-2 : tie.Need-returns-2
+unfolding productIn
 returns-2 c =
     let g = c .before .before .before .before .before .before .before .before .args in
-    let x = c .before .before .multiply in
-    product-written (g .st) (g .store .now) (g .w .now) (c .before .before .before .before .before .check-room .ensures) (c .before .before .before .before .if1 .left) (x .ensures) (x .kept .1 .1 .0)
+    let x = c .before .before .mul-zero in
+    lent-written 1 (g .n) (g .store .now) (g .w .now) (productOf (g .n) (g .store .now)) (c .before .before .before .before .before .sizes .ensures) (c .before .before .before .before .if1 .left) (x .ensures) (x .kept .1 .1 .0)
 
 pub product-spec : {M : Type 1} → statement M
-product-spec =
-    tie.close
-    (tie.spec
-    check-room-requires
-    returns
-    slice-relend-prefix-multiply
-    slice-aggregate-multiply
-    multiply-requires
-    same-length
-    returns-2)
+product-spec = tie.close (tie.spec sizes-requires returns slice-relend-prefix-mul-zero slice-aggregate-mul-zero mul-zero-requires same-length returns-2)

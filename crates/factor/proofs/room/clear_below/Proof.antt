@@ -3,8 +3,8 @@ use Prim.Native.Nat.{_-_, _≤_}
 use mathlib.Core.Path.{_≡_, refl, sym, _∙_}
 use native.Mathlib.Omega.{arith}
 use borrow.Author.Needs.{needs}
-use Rattle.factor.specs.Room.{Square, uppersOf, belowsOf}
-use Rattle.factor.proofs.Squares.{belowsOf-length, below-long}
+use Rattle.leaves.specs.Square.{Square, uppersOf, belowsOf}
+use Rattle.leaves.proofs.Squares.{belowsOf-length, below-long}
 use Rattle.factor.proofs.Lent.{clearedTo, cleared-none, cleared-turn, cleared-end}
 use Rattle.factor.proofs.room.clear_below.Statement.{statement}
 use Rattle.factor.proofs.room.clear_below.Tie as tie

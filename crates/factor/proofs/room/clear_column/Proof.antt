@@ -5,14 +5,14 @@ use native.Mathlib.Omega.{arith}
 use borrow.Author.Needs.{needs}
 use lib.ListN.{length, set, take, drop, length-replicate}
 use Rattle.leaves.proofs.Triangles.{column-fits}
-use Rattle.factor.proofs.Squares.{column-end}
-use Rattle.factor.proofs.Splices.{lent, filled}
+use Rattle.leaves.proofs.Squares.{column-end}
+use Rattle.leaves.proofs.Splices.{lent, filled}
 use Rattle.factor.proofs.Lent.{end-upper, end-below}
 use mathlib.Core.List.{List, _++_}
 use native.Mathlib.Nat.{mul-le-mul}
 use lib.Ieee.{Float, ofBits}
 use Rattle.leaves.specs.Number.{plusZero}
-use Rattle.factor.specs.Room.{Square, uppersOf, belowsOf, zeros}
+use Rattle.leaves.specs.Square.{Square, uppersOf, belowsOf, zeros}
 use Rattle.factor.proofs.room.clear_column.Statement.{statement}
 use Rattle.factor.proofs.room.clear_column.Tie as tie
 

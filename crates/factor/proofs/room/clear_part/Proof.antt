@@ -6,7 +6,8 @@ use Rattle.factor.proofs.Lent.{part-lent, part-read, part-fits}
 use mathlib.Core.List.{List}
 use lib.Ieee.{Float, ofBits}
 use Rattle.leaves.specs.Number.{plusZero}
-use Rattle.factor.specs.Room.{zeros, load, withPart}
+use Rattle.leaves.specs.Square.{zeros}
+use Rattle.factor.specs.Room.{load, withPart}
 use Rattle.factor.proofs.room.clear_part.Statement.{statement}
 use Rattle.factor.proofs.room.clear_part.Tie as tie
 

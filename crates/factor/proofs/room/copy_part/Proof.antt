@@ -2,7 +2,8 @@
 use mathlib.Core.Path.{sym, ap, _∙_}
 use borrow.Author.Needs.{needs}
 use lib.ListN.{length}
-use Rattle.factor.proofs.Lent.{copy-leaves, part-read, part-fits}
+use Rattle.leaves.proofs.Folds.{copy-leaves}
+use Rattle.factor.proofs.Lent.{part-read, part-fits}
 use Rattle.factor.proofs.room.copy_part.Statement.{statement}
 use Rattle.factor.proofs.room.copy_part.Tie as tie
 

@@ -3,7 +3,8 @@ use mathlib.Core.Path.{sym, ap, _∙_}
 use borrow.Author.Needs.{needs}
 use Rattle.factor.proofs.Lent.{emptied-as, square-lent}
 use Rattle.factor.proofs.Layouts.{laid, load-shaped, square-of, square-upper, square-below}
-use Rattle.factor.specs.Room.{Room, zeros, cleared, withPart}
+use Rattle.factor.specs.Room.{Room, withPart}
+use Rattle.leaves.specs.Square.{zeros, cleared}
 use Rattle.factor.proofs.room.empty_room.Statement.{statement}
 use Rattle.factor.proofs.room.empty_room.Tie as tie
 

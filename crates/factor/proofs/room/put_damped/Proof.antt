@@ -3,7 +3,8 @@ use mathlib.Core.Path.{ap, _∙_}
 use borrow.Author.Needs.{needs}
 use Rattle.factor.proofs.Lent.{left-as}
 use Rattle.factor.proofs.Layouts.{laid, load-shaped}
-use Rattle.factor.specs.Room.{Room, zeros, withPart}
+use Rattle.factor.specs.Room.{Room, withPart}
+use Rattle.leaves.specs.Square.{zeros}
 use Rattle.factor.proofs.room.put_damped.Statement.{statement}
 use Rattle.factor.proofs.room.put_damped.Tie as tie
 

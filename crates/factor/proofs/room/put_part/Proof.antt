@@ -2,7 +2,8 @@
 use mathlib.Core.Path.{sym, ap, _∙_}
 use borrow.Author.Needs.{needs}
 use lib.ListN.{length}
-use Rattle.factor.proofs.Lent.{copy-leaves, part-read, part-fits, part-lent}
+use Rattle.leaves.proofs.Folds.{copy-leaves}
+use Rattle.factor.proofs.Lent.{part-read, part-fits, part-lent}
 use Rattle.factor.specs.Room.{load, withPart}
 use mathlib.Core.List.{List}
 use lib.Ieee.{Float}

@@ -4,8 +4,8 @@ use mathlib.Core.Path.{_≡_, refl}
 use native.Mathlib.Omega.{arith}
 use borrow.Author.Needs.{needs}
 use lib.ListN.{length}
-use Rattle.factor.specs.Room.{belowsOf}
-use Rattle.factor.proofs.Squares.{column-end, belowsOf-length}
+use Rattle.leaves.specs.Square.{belowsOf}
+use Rattle.leaves.proofs.Squares.{column-end, belowsOf-length}
 use Rattle.factor.proofs.Backs.{backed, back-none, back-turn, back-end}
 use Rattle.factor.proofs.solve.backward_from.Statement.{statement}
 use Rattle.factor.proofs.solve.backward_from.Tie as tie

@@ -2,8 +2,8 @@
 use mathlib.Core.Path.{_∙_}
 use native.Mathlib.Omega.{arith}
 use borrow.Author.Needs.{needs}
-use Rattle.factor.specs.Room.{belowsOf}
-use Rattle.factor.proofs.Squares.{belowsOf-length}
+use Rattle.leaves.specs.Square.{belowsOf}
+use Rattle.leaves.proofs.Squares.{belowsOf-length}
 use Rattle.factor.proofs.Solves.{rank-most}
 use Rattle.factor.proofs.Backs.{damped-law}
 use Rattle.factor.proofs.solve.backward_in.Statement.{statement}

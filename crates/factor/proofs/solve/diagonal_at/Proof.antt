@@ -1,7 +1,7 @@
 -- `factor::solve::diagonal_at` meets its contract. Assumes nothing.
 use mathlib.Core.Path.{sym}
 use borrow.Author.Needs.{needs}
-use Rattle.factor.proofs.Squares.{diagonal-at}
+use Rattle.leaves.proofs.Squares.{diagonal-at}
 use Rattle.factor.proofs.solve.diagonal_at.Statement.{statement}
 use Rattle.factor.proofs.solve.diagonal_at.Tie as tie
 

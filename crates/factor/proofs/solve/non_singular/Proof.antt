@@ -6,9 +6,9 @@ use borrow.Author.Needs.{needs}
 use mathlib.Core.Bool.{true, false}
 use lib.ListN.{length, drop}
 use lib.Ieee.{ofBits}
-use Rattle.factor.specs.Room.{uppersOf, diagonal}
+use Rattle.leaves.specs.Square.{uppersOf, diagonal}
 use Rattle.factor.specs.Solve.{noZero}
-use Rattle.factor.proofs.Squares.{column-end, diagonal-length, uppersOf-length}
+use Rattle.leaves.proofs.Squares.{column-end, diagonal-length, uppersOf-length}
 use Rattle.factor.proofs.Solves.{noZero-stop, noZero-go, noZero-end, singular-few, singular-is}
 use Rattle.factor.proofs.solve.non_singular.Statement.{statement}
 use Rattle.factor.proofs.solve.non_singular.Tie as tie

@@ -6,9 +6,9 @@ use borrow.Author.Needs.{needs}
 use native.Mathlib.Nat.{zero-add}
 use lib.ListN.{length, take, drop}
 use lib.Ieee.{ofBits}
-use Rattle.factor.specs.Room.{uppersOf, diagonal}
+use Rattle.leaves.specs.Square.{uppersOf, diagonal}
 use Rattle.factor.specs.Solve.{rank}
-use Rattle.factor.proofs.Squares.{column-end}
+use Rattle.leaves.proofs.Squares.{column-end}
 use Rattle.factor.proofs.Solves.{top-long, top-at, rank-stop, rank-go, rank-end}
 use Rattle.factor.proofs.solve.rank_of.Statement.{statement}
 use Rattle.factor.proofs.solve.rank_of.Tie as tie

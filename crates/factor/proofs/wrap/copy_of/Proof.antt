@@ -1,6 +1,6 @@
 -- `factor::wrap::copy_of` meets its contract. Assumes nothing.
 use borrow.Author.Needs.{needs}
-use Rattle.factor.proofs.Grids.{copy-leaves}
+use Rattle.leaves.proofs.Folds.{copy-leaves}
 use Rattle.factor.proofs.wrap.copy_of.Statement.{statement}
 use Rattle.factor.proofs.wrap.copy_of.Tie as tie
 

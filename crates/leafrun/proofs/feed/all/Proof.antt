@@ -6,19 +6,19 @@ use Rattle.leafrun.proofs.feed.all.Statement.{statement}
 use Rattle.leafrun.proofs.feed.all.Tie as tie
 
 abbrev Inv-loop : tie.InvT-loop
-Inv-loop store₀ counts₀ p₀ turns₀ store counts p turns = (length store ≡ length store₀) × (length counts ≡ length counts₀)
+Inv-loop store₀ p₀ turns₀ store p turns = length store ≡ length store₀
 
 abbrev μ-loop : tie.MeasureT-loop
-μ-loop store₀ counts₀ p₀ turns₀ store counts p turns = turns
+μ-loop store₀ p₀ turns₀ store p turns = turns
+
+none-requires : tie.Need-none-requires Inv-loop μ-loop
+none-requires c κs = search needs
 
 loop-holds : tie.Need-loop-holds Inv-loop μ-loop
 loop-holds c = search needs
 
 same-length : tie.Need-same-length Inv-loop μ-loop
 same-length c = search needs
-
-same-length-2 : tie.Need-same-length-2 Inv-loop μ-loop
-same-length-2 c = search needs
 
 returns : tie.Need-returns Inv-loop μ-loop
 returns c = search needs
@@ -35,11 +35,8 @@ loop-less c = search needs
 loop-again : tie.Need-loop-again Inv-loop μ-loop
 loop-again c = search needs
 
-same-length-3 : tie.Need-same-length-3 Inv-loop μ-loop
-same-length-3 c = search needs
-
-same-length-4 : tie.Need-same-length-4 Inv-loop μ-loop
-same-length-4 c = search needs
+same-length-2 : tie.Need-same-length-2 Inv-loop μ-loop
+same-length-2 c = search needs
 
 returns-2 : tie.Need-returns-2 Inv-loop μ-loop
 returns-2 c = search needs
@@ -50,14 +47,13 @@ all-spec =
     (tie.spec
     Inv-loop
     μ-loop
+    none-requires
     loop-holds
     same-length
-    same-length-2
     returns
     some-requires
     sub-turns
     loop-less
     loop-again
-    same-length-3
-    same-length-4
+    same-length-2
     returns-2)

@@ -1,4 +1,4 @@
--- `leafrun::feed::feed` is safe and ends. The measure is what is left of the bytes. Assumes nothing.
+-- `leafrun::feed::feed` is safe and ends. The measure is what is left of the turns, of which there are as many as bytes. Assumes nothing.
 use borrow.Author.Needs.{needs}
 use mathlib.Core.Path.{_≡_}
 use Prim.Native.Nat.{_-_}
@@ -7,16 +7,19 @@ use Rattle.leafrun.proofs.feed.feed.Statement.{statement}
 use Rattle.leafrun.proofs.feed.feed.Tie as tie
 
 abbrev Inv-loop : tie.InvT-loop
-Inv-loop chunk store₀ counts₀ q₀ i₀ store counts q i = (length store ≡ length store₀) × (length counts ≡ length counts₀)
+Inv-loop chunk store₀ q₀ i₀ store q i = length store ≡ length store₀
 
 abbrev μ-loop : tie.MeasureT-loop
-μ-loop chunk store₀ counts₀ q₀ i₀ store counts q i = length chunk - i
+μ-loop chunk store₀ q₀ i₀ store q i = length chunk - i
 
 loop-holds : tie.Need-loop-holds Inv-loop μ-loop
 loop-holds c = search needs
 
-shared-slice-read-next : tie.Need-shared-slice-read-next Inv-loop μ-loop
-shared-slice-read-next c = search needs
+same-length : tie.Need-same-length Inv-loop μ-loop
+same-length c = search needs
+
+returns : tie.Need-returns Inv-loop μ-loop
+returns c = search needs
 
 next-requires : tie.Need-next-requires Inv-loop μ-loop
 next-requires c κs = search needs
@@ -30,14 +33,11 @@ loop-less c = search needs
 loop-again : tie.Need-loop-again Inv-loop μ-loop
 loop-again c = search needs
 
-same-length : tie.Need-same-length Inv-loop μ-loop
-same-length c = search needs
-
 same-length-2 : tie.Need-same-length-2 Inv-loop μ-loop
 same-length-2 c = search needs
 
-returns : tie.Need-returns Inv-loop μ-loop
-returns c = search needs
+returns-2 : tie.Need-returns-2 Inv-loop μ-loop
+returns-2 c = search needs
 
 pub feed-spec : {M : Type 1} → statement M
 feed-spec =
@@ -46,11 +46,11 @@ feed-spec =
     Inv-loop
     μ-loop
     loop-holds
-    shared-slice-read-next
+    same-length
+    returns
     next-requires
     add-i
     loop-less
     loop-again
-    same-length
     same-length-2
-    returns)
+    returns-2)

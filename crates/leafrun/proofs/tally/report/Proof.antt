@@ -5,10 +5,10 @@ use Rattle.leafrun.proofs.tally.report.Statement.{statement}
 use Rattle.leafrun.proofs.tally.report.Tie as tie
 
 abbrev Inv-loop : tie.InvT-loop
-Inv-loop counts compared₀ differ₀ k₀ compared differ k = Unit {0}
+Inv-loop counts compared₀ differ₀ at₀ k₀ compared differ at k = Unit {0}
 
 abbrev μ-loop : tie.MeasureT-loop
-μ-loop counts compared₀ differ₀ k₀ compared differ k = 14 - k
+μ-loop counts compared₀ differ₀ at₀ k₀ compared differ at k = 14 - k
 
 loop-holds : tie.Need-loop-holds Inv-loop μ-loop
 loop-holds c = search needs

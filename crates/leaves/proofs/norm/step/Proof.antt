@@ -1,9 +1,9 @@
 -- `leaves::norm::step` meets its contract: a number of middle size keeps its sign, since its square is that of its absolute value. Assumes nothing.
-use mathlib.Core.Path.{_≡_, refl, sym, ap, _∙_}
+use mathlib.Core.Path.{_∙_}
 use lib.Ieee.{ofBits, round, neg}
 use Rattle.leaves.specs.Number.{squareOf}
 use Rattle.leaves.specs.Norm.{rdwarf, middle, add-in}
-use Rattle.leaves.proofs.Sides.{up-abs, up-le, down-abs, down-lt, mirror-lt, square-neg, between-le, between-not}
+use Rattle.leaves.proofs.norm.Sides.{up-abs, up-le, down-abs, down-lt, mirror-lt, square-neg, between-le, between-not}
 use Rattle.leaves.proofs.Norms.{nan-step}
 use borrow.Author.Needs.{needs}
 use Rattle.leaves.proofs.norm.step.Statement.{statement}

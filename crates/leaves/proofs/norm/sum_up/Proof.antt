@@ -1,9 +1,8 @@
 -- `leaves::norm::sum_up` meets its contract. Assumes nothing.
-use Prim.Native.Nat.{_+_, _*_, _-_, _≤_, _<_}
+use Prim.Native.Nat.{_-_, _≤_, _^_}
 use mathlib.Core.Path.{_≡_, refl, sym, _∙_}
 use native.Mathlib.Omega.{arith}
 use borrow.Author.Needs.{needs}
-use Prim.Native.Nat.{_^_}
 use lib.Dec.{le→leb}
 use lib.ListN.{length, drop}
 use lib.Ieee.{inFloat, ofBits, round}

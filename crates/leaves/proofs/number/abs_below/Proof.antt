@@ -1,5 +1,5 @@
 -- `leaves::number::abs_below` meets its contract. Assumes nothing.
-use Rattle.leaves.proofs.Near.{below-if, below-not}
+use Rattle.leaves.proofs.number.Near.{below-if, below-not}
 use Rattle.leaves.proofs.number.abs_below.Statement.{statement}
 use Rattle.leaves.proofs.number.abs_below.Tie as tie
 

@@ -1,5 +1,5 @@
 -- `leaves::number::abs_within` meets its contract. Assumes nothing.
-use Rattle.leaves.proofs.Near.{within-if, within-not}
+use Rattle.leaves.proofs.number.Near.{within-if, within-not}
 use Rattle.leaves.proofs.number.abs_within.Statement.{statement}
 use Rattle.leaves.proofs.number.abs_within.Tie as tie
 

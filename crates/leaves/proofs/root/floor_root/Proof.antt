@@ -5,8 +5,6 @@ use native.Mathlib.Omega.{arith}
 use Rattle.leaves.proofs.root.Digits.{Going, start, turn-none, turn-one, finish}
 use Rattle.leaves.proofs.root.floor_root.Statement.{statement}
 use Rattle.leaves.proofs.root.floor_root.Tie as tie
-use Rattle.leaves.proofs.root.floor_root.Reads as reads
-use Rattle.leaves.proofs.root.floor_root.Lts as lts
 
 abbrev Inv-loop : tie.InvT-loop
 Inv-loop v w₀ rem₀ s₀ c₀ w rem s c = Going v w rem s c

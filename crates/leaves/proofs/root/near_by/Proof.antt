@@ -8,8 +8,6 @@ use Rattle.leaves.proofs.root.Guess.{product-le, quotient-le, near-same
 use borrow.Author.Needs.{needs}
 use Rattle.leaves.proofs.root.near_by.Statement.{statement}
 use Rattle.leaves.proofs.root.near_by.Tie as tie
-use Rattle.leaves.proofs.root.near_by.Reads as reads
-use Rattle.leaves.proofs.root.near_by.Lts as lts
 
 -- of a number of 27 digits: what the division gives
 quotient : (v a : ℕ) → 2 ^ 26 ≤ a → v - a * a ≤ a * 2 → (v - a * a) * 2 ^ 32 / (a * 128) ≤ 2 ^ 26

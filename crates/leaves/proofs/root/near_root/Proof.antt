@@ -7,10 +7,6 @@ use Rattle.leaves.proofs.root.Whole.{near-bounds}
 use borrow.Author.Needs.{needs}
 use Rattle.leaves.proofs.root.near_root.Statement.{statement}
 use Rattle.leaves.proofs.root.near_root.Tie as tie
-use Rattle.leaves.proofs.root.near_root.Reads as reads
-use Rattle.leaves.proofs.root.near_root.Lts as lts
-use Rattle.leaves.proofs.root.near_by.Reads as near-by-reads
-use Rattle.leaves.proofs.root.near_slow.Reads as near-slow-reads
 
 bounded : (v : ℕ) {r : ℕ} → (2 ^ 52 ≤ v) × (v + 1 < 2 ^ 54) → r ≡ nearRoot (v * 2 ^ 52) → (r ≡ nearRoot (v * 2 ^ 52)) × (2 ^ 52 ≤ r) × (r < 2 ^ 53)
 bounded v h e = let n = near-bounds v (h .0) (h .1) in (e, omega (arith, e, n .0), omega (arith, e, n .1))

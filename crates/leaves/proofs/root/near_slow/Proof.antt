@@ -3,9 +3,6 @@ use Rattle.leaves.proofs.root.Whole.{near-up, near-down}
 use borrow.Author.Needs.{needs}
 use Rattle.leaves.proofs.root.near_slow.Statement.{statement}
 use Rattle.leaves.proofs.root.near_slow.Tie as tie
-use Rattle.leaves.proofs.root.near_slow.Reads as reads
-use Rattle.leaves.proofs.root.near_slow.Lts as lts
-use Rattle.leaves.proofs.root.floor_root.Reads as floor-root-reads
 
 floor-root-requires : tie.Need-floor-root-requires
 floor-root-requires c κs = search needs

@@ -8,10 +8,6 @@ use native.Mathlib.Omega.{arith}
 use Rattle.leaves.proofs.root.Scaled.{scaled-even, scaled-odd, packs}
 use Rattle.leaves.proofs.root.pattern.Statement.{statement}
 use Rattle.leaves.proofs.root.pattern.Tie as tie
-use Rattle.leaves.proofs.root.pattern.Reads as reads
-use Rattle.leaves.proofs.root.pattern.Lts as lts
-use Rattle.leaves.proofs.root.near_root.Reads as near-root-reads
-use Rattle.leaves.proofs.root.split.Reads as split-reads
 
 split-requires : tie.Need-split-requires
 split-requires c κs = search needs

@@ -3,8 +3,6 @@ use native.Mathlib.Omega.{arith}
 use Rattle.leaves.proofs.root.Raising.{Raised, raised-start, raised-step, raised-pos}
 use Rattle.leaves.proofs.root.raise.Statement.{statement}
 use Rattle.leaves.proofs.root.raise.Tie as tie
-use Rattle.leaves.proofs.root.raise.Reads as reads
-use Rattle.leaves.proofs.root.raise.Lts as lts
 
 abbrev Inv-loop : tie.InvT-loop
 Inv-loop t m₀ z₀ m z = Raised t m z

@@ -3,9 +3,6 @@ use borrow.Author.Needs.{needs}
 use Rattle.leaves.proofs.root.Scaled.{normed-low, normed-high}
 use Rattle.leaves.proofs.root.split.Statement.{statement}
 use Rattle.leaves.proofs.root.split.Tie as tie
-use Rattle.leaves.proofs.root.split.Reads as reads
-use Rattle.leaves.proofs.root.split.Lts as lts
-use Rattle.leaves.proofs.root.raise.Reads as raise-reads
 
 raise-requires : tie.Need-raise-requires
 raise-requires c κs = search needs

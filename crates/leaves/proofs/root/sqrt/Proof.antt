@@ -8,9 +8,6 @@ use Rattle.leaves.proofs.root.Floats.{Above, nan-root, no-nan, zero-roo
 use Rattle.leaves.proofs.root.Patterns.{top-root, some-pattern, finite-root, pattern-no-nan}
 use Rattle.leaves.proofs.root.sqrt.Statement.{statement}
 use Rattle.leaves.proofs.root.sqrt.Tie as tie
-use Rattle.leaves.proofs.root.sqrt.Reads as reads
-use Rattle.leaves.proofs.root.sqrt.Lts as lts
-use Rattle.leaves.proofs.root.pattern.Reads as pattern-reads
 
 held : (c : tie.Start) → T (fits binary64 (c .args .x))
 held c = subst T (sym (c .good .0 .1)) tt

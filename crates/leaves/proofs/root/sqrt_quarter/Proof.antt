@@ -11,11 +11,6 @@ use Rattle.leaves.proofs.root.Quarter.{above-zero, finite, digits, quar
 use borrow.Author.Needs.{needs}
 use Rattle.leaves.proofs.root.sqrt_quarter.Statement.{statement}
 use Rattle.leaves.proofs.root.sqrt_quarter.Tie as tie
-use Rattle.leaves.proofs.root.sqrt_quarter.Reads as reads
-use Rattle.leaves.proofs.root.sqrt_quarter.Lts as lts
-use Rattle.leaves.proofs.root.near_by.Reads as near-by-reads
-use Rattle.leaves.proofs.root.sqrt.Reads as root-reads
-use Rattle.leaves.proofs.root.upper_quarter.Reads as upper-quarter-reads
 
 held : (c : tie.Start) → T (fits binary64 (c .args .x))
 held c = subst T (sym (c .good .0 .1)) tt

@@ -4,8 +4,6 @@ use Rattle.leaves.proofs.root.Guess.{no-nan-below, no-nan-above}
 use borrow.Author.Needs.{needs}
 use Rattle.leaves.proofs.root.upper.Statement.{statement}
 use Rattle.leaves.proofs.root.upper.Tie as tie
-use Rattle.leaves.proofs.root.upper.Reads as reads
-use Rattle.leaves.proofs.root.upper.Lts as lts
 
 float-from-bits-x : tie.Need-float-from-bits-x
 float-from-bits-x c = no-nan-below (c .args .b) (omega arith)

@@ -3,8 +3,6 @@ use Rattle.leaves.proofs.root.Guess.{no-nan-above}
 use borrow.Author.Needs.{needs}
 use Rattle.leaves.proofs.root.upper_quarter.Statement.{statement}
 use Rattle.leaves.proofs.root.upper_quarter.Tie as tie
-use Rattle.leaves.proofs.root.upper_quarter.Reads as reads
-use Rattle.leaves.proofs.root.upper_quarter.Lts as lts
 
 float-to-bits-result : tie.Need-float-to-bits-result
 float-to-bits-result c = no-nan-above _ (c .if1 .taken)

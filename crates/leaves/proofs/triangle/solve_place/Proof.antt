@@ -1,10 +1,9 @@
 -- `leaves::triangle::solve_place` meets its contract. Assumes nothing.
-use Prim.Native.Nat.{_+_, _*_, _-_, _≤_, _<_}
-use mathlib.Core.Path.{_≡_, refl, sym, ap, _∙_}
+use Prim.Native.Nat.{_+_, _*_, _-_}
 use native.Mathlib.Omega.{arith}
 use borrow.Author.Needs.{needs}
 use lib.Ieee.{div, binary64, nan}
-use lib.ListN.{getD, length, length-set, length-take}
+use lib.ListN.{getD, length-set, length-take}
 use Rattle.leaves.proofs.Triangles.{place-law, place-length}
 use Rattle.leaves.proofs.triangle.solve_place.Statement.{statement}
 use Rattle.leaves.proofs.triangle.solve_place.Tie as tie

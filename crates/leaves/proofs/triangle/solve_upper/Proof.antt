@@ -1,9 +1,7 @@
 -- `leaves::triangle::solve_upper` meets its contract. Assumes nothing.
-use Prim.Native.Nat.{_+_, _*_, _-_, _≤_, _<_}
-use mathlib.Core.Path.{_≡_, refl, sym, ap, _∙_}
+use Prim.Native.Nat.{_-_}
 use native.Mathlib.Omega.{arith}
 use borrow.Author.Needs.{needs}
-use lib.ListN.{length}
 use Rattle.leaves.proofs.Folds.{nonzero}
 use Rattle.leaves.proofs.Triangles.{narrow, short, few, solved, empty-solved, few-by, enough-by}
 use Rattle.leaves.proofs.triangle.solve_upper.Statement.{statement}

@@ -1,10 +1,9 @@
 -- `leaves::vector::axpy_zero` meets its contract. Assumes nothing.
-use Prim.Native.Nat.{_+_, _*_, _-_, _≤_, _<_}
-use mathlib.Core.Path.{_≡_, refl, sym, ap, _∙_}
+use Prim.Native.Nat.{_-_, _≤_}
+use mathlib.Core.Path.{_≡_, refl, _∙_}
 use native.Mathlib.Omega.{arith}
 use borrow.Author.Needs.{needs}
-use mathlib.Core.List.{_++_}
-use lib.ListN.{length, take, drop, length-set}
+use lib.ListN.{length, length-set}
 use Rattle.leaves.specs.Vector.{scaleAll}
 use Rattle.leaves.proofs.Folds.{front, front-turn, front-end, scale-length, scale-at, scale-refused, scale-is}
 use Rattle.leaves.proofs.vector.axpy_zero.Statement.{statement}

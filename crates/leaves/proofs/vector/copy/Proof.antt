@@ -1,10 +1,8 @@
 -- `leaves::vector::copy` meets its contract. Assumes nothing.
-use Prim.Native.Nat.{_+_, _*_, _-_, _≤_, _<_}
-use mathlib.Core.Path.{_≡_, refl, sym, ap, _∙_}
-use native.Mathlib.Omega.{arith}
+use Prim.Native.Nat.{_-_, _≤_}
+use mathlib.Core.Path.{_≡_, refl}
 use borrow.Author.Needs.{needs}
-use mathlib.Core.List.{_++_}
-use lib.ListN.{length, take, drop, length-set}
+use lib.ListN.{length, length-set}
 use Rattle.leaves.proofs.Folds.{front, front-turn, front-end, copy-refused, copy-is}
 use Rattle.leaves.proofs.vector.copy.Statement.{statement}
 use Rattle.leaves.proofs.vector.copy.Tie as tie

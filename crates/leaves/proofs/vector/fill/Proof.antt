@@ -1,10 +1,9 @@
 -- `leaves::vector::fill` meets its contract. Assumes nothing.
-use Prim.Native.Nat.{_+_, _*_, _-_, _≤_, _<_}
-use mathlib.Core.Path.{_≡_, refl, sym, ap, _∙_}
+use Prim.Native.Nat.{_-_, _≤_, _<_}
+use mathlib.Core.Path.{_≡_, refl, sym}
 use native.Mathlib.Omega.{arith}
 use borrow.Author.Needs.{needs}
-use mathlib.Core.List.{_++_}
-use lib.ListN.{length, take, drop, replicate, length-set, length-replicate, getD-replicate}
+use lib.ListN.{length, replicate, length-set, length-replicate, getD-replicate}
 use lib.Ieee.{nan}
 use Rattle.leaves.proofs.Folds.{front, front-turn, front-end}
 use Rattle.leaves.proofs.vector.fill.Statement.{statement}

@@ -7,8 +7,8 @@ use Rattle.qr_tests.proofs.near.at.Tie as tie
 mul-result : tie.Need-mul-result
 mul-result c = search needs
 
-shared-slice-read-result : tie.Need-shared-slice-read-result
-shared-slice-read-result c = search needs
+array-read-result : tie.Need-array-read-result
+array-read-result c = search needs
 
 float-from-bits-result : tie.Need-float-from-bits-result
 unfolding nanBits
@@ -23,4 +23,4 @@ returns-2 c = search needs
 pub at-spec : {M : Type 1} → statement M
 at-spec =
     tie.close
-    (tie.spec mul-result shared-slice-read-result float-from-bits-result returns returns-2)
+    (tie.spec mul-result array-read-result float-from-bits-result returns returns-2)

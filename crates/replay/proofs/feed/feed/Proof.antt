@@ -1,4 +1,4 @@
--- `replay::feed::feed` is safe and ends. The measure is what is left of the bytes. Assumes nothing.
+-- `replay::feed::feed` is safe and ends. The measure is what is left of the turns, of which there are as many as bytes. Assumes nothing.
 use borrow.Author.Needs.{needs}
 use mathlib.Core.Path.{_≡_}
 use Prim.Native.Nat.{_-_}
@@ -7,28 +7,13 @@ use Rattle.replay.proofs.feed.feed.Statement.{statement}
 use Rattle.replay.proofs.feed.feed.Tie as tie
 
 abbrev Inv-loop : tie.InvT-loop
-Inv-loop chunk line₀ store₀ order₀ bench₀ out₀ text₀ q₀ i₀ line store order bench out text q i = (length line ≡ length line₀) × (length store ≡ length store₀) × (length order ≡ length order₀) × (length bench ≡ length bench₀) × (length out ≡ length out₀) × (length text ≡ length text₀)
+Inv-loop chunk line₀ text₀ q₀ i₀ line text q i = (length line ≡ length line₀) × (length text ≡ length text₀)
 
 abbrev μ-loop : tie.MeasureT-loop
-μ-loop chunk line₀ store₀ order₀ bench₀ out₀ text₀ q₀ i₀ line store order bench out text q i = length chunk - i
+μ-loop chunk line₀ text₀ q₀ i₀ line text q i = length chunk - i
 
 loop-holds : tie.Need-loop-holds Inv-loop μ-loop
 loop-holds c = search needs
-
-shared-slice-read-b : tie.Need-shared-slice-read-b Inv-loop μ-loop
-shared-slice-read-b c = search needs
-
-add-i : tie.Need-add-i Inv-loop μ-loop
-add-i c = search needs
-
-next-requires : tie.Need-next-requires Inv-loop μ-loop
-next-requires c κs = search needs
-
-loop-less : tie.Need-loop-less Inv-loop μ-loop
-loop-less c = search needs
-
-loop-again : tie.Need-loop-again Inv-loop μ-loop
-loop-again c = search needs
 
 same-length : tie.Need-same-length Inv-loop μ-loop
 same-length c = search needs
@@ -36,20 +21,29 @@ same-length c = search needs
 same-length-2 : tie.Need-same-length-2 Inv-loop μ-loop
 same-length-2 c = search needs
 
+returns : tie.Need-returns Inv-loop μ-loop
+returns c = search needs
+
+next-requires : tie.Need-next-requires Inv-loop μ-loop
+next-requires c κs = search needs
+
+add-i : tie.Need-add-i Inv-loop μ-loop
+add-i c = search needs
+
+loop-less : tie.Need-loop-less Inv-loop μ-loop
+loop-less c = search needs
+
+loop-again : tie.Need-loop-again Inv-loop μ-loop
+loop-again c = search needs
+
 same-length-3 : tie.Need-same-length-3 Inv-loop μ-loop
 same-length-3 c = search needs
 
 same-length-4 : tie.Need-same-length-4 Inv-loop μ-loop
 same-length-4 c = search needs
 
-same-length-5 : tie.Need-same-length-5 Inv-loop μ-loop
-same-length-5 c = search needs
-
-same-length-6 : tie.Need-same-length-6 Inv-loop μ-loop
-same-length-6 c = search needs
-
-returns : tie.Need-returns Inv-loop μ-loop
-returns c = search needs
+returns-2 : tie.Need-returns-2 Inv-loop μ-loop
+returns-2 c = search needs
 
 pub feed-spec : {M : Type 1} → statement M
 feed-spec =
@@ -58,15 +52,13 @@ feed-spec =
     Inv-loop
     μ-loop
     loop-holds
-    shared-slice-read-b
-    add-i
-    next-requires
-    loop-less
-    loop-again
     same-length
     same-length-2
+    returns
+    next-requires
+    add-i
+    loop-less
+    loop-again
     same-length-3
     same-length-4
-    same-length-5
-    same-length-6
-    returns)
+    returns-2)

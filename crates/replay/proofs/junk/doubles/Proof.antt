@@ -1,4 +1,4 @@
--- `replay::junk::doubles` is safe and ends. The measure is what is left of the room. Assumes nothing.
+-- `replay::junk::doubles` is safe and ends. The measure is what is left of the numbers. Assumes nothing.
 use borrow.Author.Needs.{needs}
 use mathlib.Core.Path.{_≡_}
 use Prim.Native.Nat.{_-_}
@@ -7,13 +7,19 @@ use Rattle.replay.proofs.junk.doubles.Statement.{statement}
 use Rattle.replay.proofs.junk.doubles.Tie as tie
 
 abbrev Inv-loop : tie.InvT-loop
-Inv-loop room₀ counter c₀ i₀ room c i = length room ≡ length room₀
+Inv-loop room₀ len counter c₀ i₀ room c i = length room ≡ length room₀
 
 abbrev μ-loop : tie.MeasureT-loop
-μ-loop room₀ counter c₀ i₀ room c i = length room₀ - i
+μ-loop room₀ len counter c₀ i₀ room c i = len - i
 
 loop-holds : tie.Need-loop-holds Inv-loop μ-loop
 loop-holds c = search needs
+
+same-length : tie.Need-same-length Inv-loop μ-loop
+same-length c = search needs
+
+returns : tie.Need-returns Inv-loop μ-loop
+returns c = search needs
 
 next-requires : tie.Need-next-requires Inv-loop μ-loop
 next-requires c κs = search needs
@@ -36,11 +42,11 @@ loop-less c = search needs
 loop-again : tie.Need-loop-again Inv-loop μ-loop
 loop-again c = search needs
 
-same-length : tie.Need-same-length Inv-loop μ-loop
-same-length c = search needs
+same-length-2 : tie.Need-same-length-2 Inv-loop μ-loop
+same-length-2 c = search needs
 
-returns : tie.Need-returns Inv-loop μ-loop
-returns c = search needs
+returns-2 : tie.Need-returns-2 Inv-loop μ-loop
+returns-2 c = search needs
 
 pub doubles-spec : {M : Type 1} → statement M
 doubles-spec =
@@ -49,6 +55,8 @@ doubles-spec =
     Inv-loop
     μ-loop
     loop-holds
+    same-length
+    returns
     next-requires
     of-bits-requires
     mul-room
@@ -56,5 +64,5 @@ doubles-spec =
     add-i
     loop-less
     loop-again
-    same-length
-    returns)
+    same-length-2
+    returns-2)

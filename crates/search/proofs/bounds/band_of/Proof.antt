@@ -1,5 +1,4 @@
 -- `search::bounds::band_of` meets its contract. Assumes nothing.
-use mathlib.Core.Path.{_≡_, refl, sym, ap, _∙_}
 use Rattle.search.proofs.Constants.{tenth-is}
 use Rattle.search.specs.Bounds.{band}
 use Rattle.search.proofs.bounds.band_of.Statement.{statement}

@@ -1,5 +1,4 @@
 -- `search::bounds::is_falling` meets its contract. Assumes nothing.
-use mathlib.Core.Path.{_≡_, refl, sym, ap, _∙_}
 use borrow.Author.Needs.{needs}
 use lib.Ieee.{ofBits}
 use Rattle.search.specs.Run.{isFalling}

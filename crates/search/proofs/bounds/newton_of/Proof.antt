@@ -1,5 +1,5 @@
 -- `search::bounds::newton_of` meets its contract. Assumes nothing.
-use mathlib.Core.Path.{_≡_, refl, sym, ap, _∙_}
+use mathlib.Core.Path.{refl}
 use Rattle.search.specs.Problem.{newton}
 use Rattle.search.proofs.bounds.newton_of.Statement.{statement}
 use Rattle.search.proofs.bounds.newton_of.Tie as tie

@@ -1,5 +1,5 @@
 -- `search::bounds::next_of` meets its contract. Assumes nothing.
-use mathlib.Core.Path.{_≡_, refl, sym, ap, _∙_}
+use mathlib.Core.Path.{sym, _∙_}
 use borrow.Author.Needs.{needs}
 use Rattle.search.proofs.Numbers.{next-falls, next-rises}
 use Rattle.search.proofs.bounds.next_of.Statement.{statement}

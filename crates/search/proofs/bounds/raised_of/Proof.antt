@@ -1,5 +1,5 @@
 -- `search::bounds::raised_of` meets its contract. Assumes nothing.
-use mathlib.Core.Path.{_≡_, refl, sym, ap, _∙_}
+use mathlib.Core.Path.{_∙_}
 use borrow.Author.Needs.{needs}
 use lib.Ieee.{ofBits}
 use Rattle.search.proofs.Numbers.{raised-zero}

@@ -1,5 +1,4 @@
 -- `search::bounds::upper_bound` meets its contract. Assumes nothing.
-use mathlib.Core.Path.{_≡_, refl, sym, ap, _∙_}
 use borrow.Author.Needs.{needs}
 use Rattle.search.proofs.Numbers.{upper-zero, upper-else}
 use Rattle.search.proofs.bounds.upper_bound.Statement.{statement}

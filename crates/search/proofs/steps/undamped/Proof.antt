@@ -13,7 +13,7 @@ zero-requires c κs = search needs
 place-scaled-requires : tie.Need-place-scaled-requires
 place-scaled-requires c κs =
     let g = c .before .before .before .before .before .before .before .before .before .before .before in
-    let l = c .before .before .before .before .zero .kept .1 .1 .0 ∙ g .pre .1 .2 in
+    let l = c .before .before .before .before .zero .kept .1 .1 .1 .0 ∙ g .pre .1 .2 in
     ((l ∙ sym (g .pre .1 .1), g .pre .1 .0 ∙ sym (g .pre .1 .1), omega (arith, l, order-long (g .args .st) (g .args .store .now) (g .args .order .now) (g .pre .0))), rw l (order-below (g .args .st) (g .args .store .now) (g .args .order .now) (g .pre .0)))
 
 norm-of-requires : tie.Need-norm-of-requires
@@ -31,7 +31,7 @@ returns : tie.Need-returns
 returns c =
     let g = c .before .before .before .before .before .before .before .before .before .before .before .before .before .before .before .before in
     let z = c .before .before .before .before .before .before .before .before .before .zero in
-    let l = z .kept .1 .1 .0 ∙ g .pre .1 .2 in (
+    let l = z .kept .1 .1 .1 .0 ∙ g .pre .1 .2 in (
       c .norm-of .ensures,
       (
         scaled-placed (g .args .st) (g .args .store .now) (g .args .order .now) (g .pre .0) (g .args .diag .now) _ _ plusZero (g .pre .1 .0) (g .pre .1 .1) l (c .before .before .before .before .place-scaled .ensures),

@@ -1,5 +1,5 @@
 -- `search::trials::bounded` meets its contract. Assumes nothing.
-use mathlib.Core.Path.{_≡_, refl, sym, ap, _∙_}
+use mathlib.Core.Path.{refl, sym, ap, _∙_}
 use borrow.Author.Needs.{needs}
 use borrow.Author.Tests.{not-true, not-false}
 use lib.Ieee.{Float, binary64, sub}
@@ -9,7 +9,7 @@ use Rattle.search.specs.Problem.{placed}
 use Rattle.search.specs.Bounds.{lowerBound}
 use Rattle.search.specs.Search.{problemOf}
 use Rattle.search.specs.Read.{unanswered}
-use Rattle.search.proofs.Bounding.{lower-asked, gnorm-asked, no-lower, no-gnorm, to-trials, first-is, asked-trials}
+use Rattle.search.proofs.trials.Bounding.{lower-asked, gnorm-asked, no-lower, no-gnorm, to-trials, first-is, asked-trials}
 use Rattle.search.proofs.trials.bounded.Statement.{statement}
 use Rattle.search.proofs.trials.bounded.Tie as tie
 

@@ -1,11 +1,11 @@
 -- `search::trust_region::determine_lambda_and_parameter_update` meets its contract. Assumes nothing.
-use mathlib.Core.Path.{_≡_, refl, sym, ap, _∙_}
+use mathlib.Core.Path.{sym, _∙_}
 use borrow.Author.Needs.{needs}
 use lib.ListN.{take}
 use lib.Seq.{length-take-le}
 use Rattle.factor.specs.Room.{load, lay, emptied}
 use Rattle.search.specs.Search.{problemOf, answerOf}
-use Rattle.factor.proofs.Outcomes.{sixteen-fits, sixteen-front}
+use Rattle.leaves.proofs.Overs.{lent-fits, lent-long}
 use Rattle.search.proofs.Calling.{call-is-refused, few, diag-long, out-long, ready, lent-back, call-is-run}
 use Rattle.search.proofs.trust_region.determine_lambda_and_parameter_update.Statement.{statement}
 use Rattle.search.proofs.trust_region.determine_lambda_and_parameter_update.Tie as tie
@@ -36,28 +36,28 @@ array-borrow-prefix-v c =
     let g = c .before .before .before .before .before .before .before .before .before .before .args in
     let e = c .before .before .before .before .before .check-search .ensures in
     let z = c .before .before .before .before .if1 .left in
-    sixteen-fits (g .st .n) (c .before .before .before .room16 .ensures) (few (g .st) (g .store .now) (g .order .now) (g .diag .now) (g .radius) (g .lambda) (g .out .now) e z)
+    lent-fits (g .st .n) _ (c .before .before .before .room16 .ensures) (few (g .st) (g .store .now) (g .order .now) (g .diag .now) (g .radius) (g .lambda) (g .out .now) e z)
 
 slice-aggregate-run-into-2 : tie.Need-slice-aggregate-run-into-2
 slice-aggregate-run-into-2 c =
     let g = c .before .before .before .before .before .before .before .before .before .before .before .args in
     let e = c .before .before .before .before .before .before .check-search .ensures in
     let z = c .before .before .before .before .before .if1 .left in
-    sym (sixteen-front (g .st .n) (c .before .before .before .before .room16 .ensures) (few (g .st) (g .store .now) (g .order .now) (g .diag .now) (g .radius) (g .lambda) (g .out .now) e z))
+    sym (lent-long (g .st .n) _ (c .before .before .before .before .room16 .ensures) (few (g .st) (g .store .now) (g .order .now) (g .diag .now) (g .radius) (g .lambda) (g .out .now) e z))
 
 array-borrow-prefix-w : tie.Need-array-borrow-prefix-w
 array-borrow-prefix-w c =
     let g = c .before .before .before .before .before .before .before .before .before .before .before .args in
     let e = c .before .before .before .before .before .before .check-search .ensures in
     let z = c .before .before .before .before .before .if1 .left in
-    sixteen-fits (g .st .n) (c .before .before .before .room162 .ensures) (few (g .st) (g .store .now) (g .order .now) (g .diag .now) (g .radius) (g .lambda) (g .out .now) e z)
+    lent-fits (g .st .n) _ (c .before .before .before .room162 .ensures) (few (g .st) (g .store .now) (g .order .now) (g .diag .now) (g .radius) (g .lambda) (g .out .now) e z)
 
 slice-aggregate-run-into-3 : tie.Need-slice-aggregate-run-into-3
 slice-aggregate-run-into-3 c =
     let g = c .before .before .before .before .before .before .before .before .before .before .before .before .args in
     let e = c .before .before .before .before .before .before .before .check-search .ensures in
     let z = c .before .before .before .before .before .before .if1 .left in
-    sym (sixteen-front (g .st .n) (c .before .before .before .before .room162 .ensures) (few (g .st) (g .store .now) (g .order .now) (g .diag .now) (g .radius) (g .lambda) (g .out .now) e z))
+    sym (lent-long (g .st .n) _ (c .before .before .before .before .room162 .ensures) (few (g .st) (g .store .now) (g .order .now) (g .diag .now) (g .radius) (g .lambda) (g .out .now) e z))
 
 slice-relend-prefix-run-into : tie.Need-slice-relend-prefix-run-into
 slice-relend-prefix-run-into c =
@@ -80,7 +80,7 @@ run-into-requires c κs =
     let z = c .before .before .before .before .before .before .before .if1 .left in (
       ready (g .st) (g .store .now) (g .order .now) (g .diag .now) (g .radius) (g .lambda) (g .out .now) e z,
       (
-        (length-take-le (g .st .n) (g .diag .now) (diag-long (g .st) (g .store .now) (g .order .now) (g .diag .now) (g .radius) (g .lambda) (g .out .now) e z), sixteen-front (g .st .n) (c .before .before .before .before .before .before .room16 .ensures) (few (g .st) (g .store .now) (g .order .now) (g .diag .now) (g .radius) (g .lambda) (g .out .now) e z), sixteen-front (g .st .n) (c .before .before .before .before .before .room162 .ensures) (few (g .st) (g .store .now) (g .order .now) (g .diag .now) (g .radius) (g .lambda) (g .out .now) e z)),
+        (length-take-le (g .st .n) (g .diag .now) (diag-long (g .st) (g .store .now) (g .order .now) (g .diag .now) (g .radius) (g .lambda) (g .out .now) e z), lent-long (g .st .n) _ (c .before .before .before .before .before .before .room16 .ensures) (few (g .st) (g .store .now) (g .order .now) (g .diag .now) (g .radius) (g .lambda) (g .out .now) e z), lent-long (g .st .n) _ (c .before .before .before .before .before .room162 .ensures) (few (g .st) (g .store .now) (g .order .now) (g .diag .now) (g .radius) (g .lambda) (g .out .now) e z)),
         length-take-le (g .st .n) (g .out .now) (out-long (g .st) (g .store .now) (g .order .now) (g .diag .now) (g .radius) (g .lambda) (g .out .now) e z),
       ),
     )

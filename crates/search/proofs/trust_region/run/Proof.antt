@@ -1,5 +1,5 @@
 -- `search::trust_region::run` meets its contract. Assumes nothing.
-use mathlib.Core.Path.{_≡_, refl, sym, ap, _∙_}
+use mathlib.Core.Path.{refl, sym, ap, _∙_}
 use borrow.Author.Needs.{needs}
 use borrow.Author.Tests.{not-true, not-false}
 use lib.Ieee.{ofBits}
@@ -7,7 +7,7 @@ use Rattle.leaves.specs.Norm.{norm}
 use Rattle.leaves.specs.Number.{plusZero}
 use Rattle.factor.specs.Room.{load}
 use Rattle.search.specs.Search.{problemOf}
-use Rattle.search.proofs.Answering.{no-norm, taken, not-taken, undamped-asked, scaled-asked, band-test}
+use Rattle.search.proofs.trust_region.Answering.{no-norm, taken, not-taken, undamped-asked, scaled-asked, band-test}
 use Rattle.search.proofs.trust_region.run.Statement.{statement}
 use Rattle.search.proofs.trust_region.run.Tie as tie
 

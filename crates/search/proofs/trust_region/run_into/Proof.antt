@@ -1,5 +1,5 @@
 -- `search::trust_region::run_into` meets its contract. Assumes nothing.
-use mathlib.Core.Path.{_≡_, refl, sym, ap, _∙_}
+use mathlib.Core.Path.{sym, ap, _∙_}
 use borrow.Author.Needs.{needs}
 use Rattle.factor.specs.Room.{load, lay}
 use Rattle.search.specs.Problem.{placed}

@@ -1,15 +1,16 @@
 -- `search::vectors::norm_of` meets its contract. Assumes nothing.
-use mathlib.Core.Path.{_∙_}
+use mathlib.Core.Path.{ap, _∙_}
 use borrow.Author.Needs.{needs}
-use Rattle.leaves.proofs.Norms.{norm-or}
+use Rattle.leaves.specs.declared.norm.Normed.{Normed}
+use Rattle.leaves.proofs.Norms.{norm-carried}
 use Rattle.search.proofs.vectors.norm_of.Statement.{statement}
 use Rattle.search.proofs.vectors.norm_of.Tie as tie
 
-norm-requires : tie.Need-norm-requires
-norm-requires c κs = search needs
+enorm-requires : tie.Need-enorm-requires
+enorm-requires c κs = search needs
 
 returns : tie.Need-returns
-returns c = c .norm .ensures ∙ norm-or _ (c .before .before .pre)
+returns c = ap (λ (s : Normed). s .value) (c .enorm .ensures) ∙ norm-carried (c .before .before .args .v .now) (c .before .before .pre)
 
 pub norm-of-spec : {M : Type 1} → statement M
-norm-of-spec = tie.close (tie.spec norm-requires returns)
+norm-of-spec = tie.close (tie.spec enorm-requires returns)

@@ -7,7 +7,7 @@ use lib.ListN.{length, length-set, take, drop}
 use lib.Seq.{getD-take, length-take-le}
 use Rattle.leaves.specs.Product.{productAll}
 use Rattle.factor.specs.Solve.{gather, scatter}
-use Rattle.factor.proofs.Scalings.{product-length}
+use Rattle.leaves.proofs.Products.{product-length}
 use Rattle.factor.proofs.Solves.{gather-length, scatter-end}
 use Rattle.search.proofs.Lists.{scaled-place, placed-turn}
 use Rattle.search.proofs.vectors.place_scaled.Statement.{statement}

@@ -1,13 +1,12 @@
 -- `sheet::check::check_task` meets its contract. Assumes nothing.
 use native.Mathlib.Omega.{arith}
-use Rattle.factor.proofs.Refusals.{test-met}
-use Rattle.factor.proofs.Measured.{past, none-left}
+use Rattle.leaves.proofs.Refusals.{test-met, past, none-left}
 use mathlib.Core.Path.{sym, ap, _∙_}
 use lib.Ieee.{ofBits}
 use Rattle.sheet.proofs.Testing.{search-task, start-task, search-ends, start-ends}
 use Rattle.sheet.specs.Sheet.{Task}
 use Rattle.sheet.specs.Tests.{taskTests}
-use Rattle.factor.specs.Tests.{firstOf}
+use Rattle.leaves.specs.Tests.{firstOf}
 use borrow.Author.Needs.{needs}
 use Rattle.sheet.proofs.check.check_task.Statement.{statement}
 use Rattle.sheet.proofs.check.check_task.Tie as tie

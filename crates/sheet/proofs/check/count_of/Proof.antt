@@ -1,6 +1,6 @@
 -- `sheet::check::count_of` meets its contract. Assumes nothing.
 use native.Mathlib.Omega.{arith}
-use Rattle.factor.proofs.Passed.{inside, jacobian-small}
+use Rattle.leaves.proofs.Insides.{inside, jacobian-small}
 use borrow.Author.Tests.{eq-eqb, ne-eqb}
 use Rattle.sheet.specs.Sheet.{countOf}
 use Rattle.sheet.proofs.check.count_of.Statement.{statement}

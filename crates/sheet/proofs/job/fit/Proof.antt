@@ -1,6 +1,6 @@
 -- `sheet::job::fit` meets its contract. Assumes nothing.
 use mathlib.Core.Path.{_∙_}
-use Rattle.sheet.proofs.Jobs.{sheet-short, sheet-refused, sheet-on}
+use Rattle.sheet.proofs.job.Jobs.{sheet-short, sheet-refused, sheet-on}
 use borrow.Author.Needs.{needs}
 use Rattle.sheet.proofs.job.fit.Statement.{statement}
 use Rattle.sheet.proofs.job.fit.Tie as tie

@@ -2,7 +2,7 @@
 use native.Mathlib.Omega.{arith}
 use mathlib.Core.Path.{sym}
 use Rattle.sheet.proofs.Testing.{search-ends, start-ends}
-use Rattle.sheet.proofs.Jobs.{as-search, as-start}
+use Rattle.sheet.proofs.job.Jobs.{as-search, as-start}
 use lib.Seq.{length-take-le}
 use borrow.Author.Needs.{needs}
 use Rattle.sheet.proofs.job.task.Statement.{statement}

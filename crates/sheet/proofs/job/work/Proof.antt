@@ -1,6 +1,6 @@
 -- `sheet::job::work` meets its contract. Assumes nothing.
 use mathlib.Core.Path.{_∙_}
-use Rattle.sheet.proofs.Jobs.{in-rooms}
+use Rattle.sheet.proofs.job.Jobs.{in-rooms}
 use borrow.Author.Needs.{needs}
 use Rattle.sheet.proofs.job.work.Statement.{statement}
 use Rattle.sheet.proofs.job.work.Tie as tie

@@ -1,7 +1,7 @@
 -- `sheet::job::work_fields` meets its contract. Assumes nothing.
 use native.Mathlib.Omega.{arith}
 use mathlib.Core.Path.{sym, _∙_}
-use Rattle.sheet.proofs.Jobs.{fields-passed}
+use Rattle.sheet.proofs.job.Jobs.{fields-passed}
 use lib.Seq.{length-take-le}
 use borrow.Author.Needs.{needs}
 use Rattle.sheet.proofs.job.work_fields.Statement.{statement}

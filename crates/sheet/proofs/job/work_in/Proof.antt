@@ -2,7 +2,7 @@
 use native.Mathlib.Omega.{arith}
 use mathlib.Core.Path.{sym}
 use Rattle.sheet.proofs.Testing.{rest-in, whole, rest-long}
-use Rattle.sheet.proofs.Jobs.{work-on, work-refused}
+use Rattle.sheet.proofs.job.Jobs.{work-on, work-refused}
 use lib.Seq.{length-take-le}
 use borrow.Rule.Slice.PartAt.{part-to-end}
 use borrow.Author.Needs.{needs}

@@ -1,5 +1,5 @@
 -- `sheet::job::work_numbers` meets its contract. Assumes nothing.
-use Rattle.sheet.proofs.Jobs.{as-counted, numbers-refused, numbers-worked}
+use Rattle.sheet.proofs.job.Jobs.{as-counted, numbers-refused, numbers-worked}
 use borrow.Author.Needs.{needs}
 use Rattle.sheet.proofs.job.work_numbers.Statement.{statement}
 use Rattle.sheet.proofs.job.work_numbers.Tie as tie

@@ -3,7 +3,7 @@ use native.Mathlib.Omega.{arith}
 use mathlib.Core.Path.{sym, ap, _∙_}
 use lib.ListN.{length}
 use Rattle.sheet.proofs.Texts.{put-put}
-use Rattle.factor.specs.Tests.{firstOf}
+use Rattle.leaves.specs.Tests.{firstOf}
 use Rattle.sheet.specs.Fit.{answerOf}
 use Rattle.sheet.specs.Lines.{line, double, radiusWord, refusedWord, fittedLines, linesOf, linesTests}
 use Rattle.sheet.specs.Inner.{put}

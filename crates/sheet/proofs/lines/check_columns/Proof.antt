@@ -1,8 +1,7 @@
 -- `sheet::lines::check_columns` meets its contract. Assumes nothing.
 use mathlib.Core.Path.{sym}
 use borrow.Author.Tests.{eq-eqb, ne-eqb, lt-ltb, le-ltb}
-use Rattle.factor.proofs.Refusals.{test-met}
-use Rattle.factor.proofs.Measured.{past, none-left}
+use Rattle.leaves.proofs.Refusals.{test-met, past, none-left}
 use Rattle.sheet.proofs.lines.check_columns.Statement.{statement}
 use Rattle.sheet.proofs.lines.check_columns.Tie as tie
 

@@ -1,7 +1,7 @@
 -- `sheet::lines::check_lines` meets its contract. Assumes nothing.
 use mathlib.Core.Path.{sym, ap, _∙_}
-use Rattle.factor.proofs.Measured.{none-left}
-use Rattle.factor.specs.Tests.{firstOf}
+use Rattle.leaves.proofs.Refusals.{none-left}
+use Rattle.leaves.specs.Tests.{firstOf}
 use Rattle.sheet.specs.Fit.{answerOf}
 use Rattle.sheet.specs.Lines.{linesTests}
 use Rattle.sheet.specs.declared.answer.Answer.{Answer}

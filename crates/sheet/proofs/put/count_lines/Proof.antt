@@ -1,6 +1,6 @@
 -- `sheet::put::count_lines` meets its contract. Assumes nothing.
 use native.Mathlib.Omega.{arith}
-use mathlib.Core.List.{[], _++_}
+use mathlib.Core.List.{_++_}
 use Rattle.sheet.proofs.Texts.{put-put}
 use Rattle.text.specs.Put.{decimalOf}
 use Rattle.sheet.specs.Lines.{line, double, lambdaWord, normWord, trialsWord, determinedWord, countLines}

@@ -2,9 +2,8 @@
 use borrow.Author.Needs.{needs}
 use native.Mathlib.Omega.{arith}
 use mathlib.Core.Path.{_≡_, refl, _∙_}
-use lib.ListN.{length}
+use lib.ListN.{length, drop}
 use Prim.Native.Nat.{_+_, _*_, _-_, _≤_}
-use lib.ListN.{drop}
 use Rattle.sheet.proofs.Texts.{step-turn, step-end}
 use Rattle.sheet.specs.Lines.{stepLines}
 use Rattle.sheet.specs.Inner.{put}

@@ -1,5 +1,5 @@
 -- `sheet::seek::search` meets its contract. Assumes nothing.
-use Rattle.sheet.proofs.Seeking.{mapped-told}
+use Rattle.sheet.proofs.seek.Seeking.{mapped-told}
 use Rattle.sheet.specs.Fit.{searched}
 use borrow.Author.Needs.{needs}
 use Rattle.sheet.proofs.seek.search.Statement.{statement}

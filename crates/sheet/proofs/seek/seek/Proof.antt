@@ -1,5 +1,5 @@
 -- `sheet::seek::seek` meets its contract. Assumes nothing.
-use Rattle.sheet.proofs.Seeking.{sought-on, sought-refused}
+use Rattle.sheet.proofs.seek.Seeking.{sought-on, sought-refused}
 use borrow.Author.Needs.{needs}
 use Rattle.sheet.proofs.seek.seek.Statement.{statement}
 use Rattle.sheet.proofs.seek.seek.Tie as tie

@@ -1,5 +1,5 @@
 -- `sheet::seek::seek_from` meets its contract. Assumes nothing.
-use Rattle.sheet.proofs.Seeking.{search-told}
+use Rattle.sheet.proofs.seek.Seeking.{search-told}
 use borrow.Author.Needs.{needs}
 use Rattle.sheet.proofs.seek.seek_from.Statement.{statement}
 use Rattle.sheet.proofs.seek.seek_from.Tie as tie

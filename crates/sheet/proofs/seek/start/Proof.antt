@@ -1,5 +1,5 @@
 -- `sheet::seek::start` meets its contract. Assumes nothing.
-use Rattle.sheet.proofs.Seeking.{started-on, started-later, started-refused}
+use Rattle.sheet.proofs.seek.Seeking.{started-on, started-later, started-refused}
 use lib.Ieee.{ofBits}
 use borrow.Author.Needs.{needs}
 use Rattle.sheet.proofs.seek.start.Statement.{statement}

@@ -6,10 +6,10 @@ use Rattle.sheetrun.proofs.feed.all.Statement.{statement}
 use Rattle.sheetrun.proofs.feed.all.Tie as tie
 
 abbrev Inv-loop : tie.InvT-loop
-Inv-loop line₀ sheet₀ text₀ p₀ turns₀ line sheet text p turns = (length line ≡ length line₀) × (length sheet ≡ length sheet₀) × (length text ≡ length text₀)
+Inv-loop line₀ text₀ p₀ turns₀ line text p turns = (length line ≡ length line₀) × (length text ≡ length text₀)
 
 abbrev μ-loop : tie.MeasureT-loop
-μ-loop line₀ sheet₀ text₀ p₀ turns₀ line sheet text p turns = turns
+μ-loop line₀ text₀ p₀ turns₀ line text p turns = turns
 
 loop-holds : tie.Need-loop-holds Inv-loop μ-loop
 loop-holds c = search needs
@@ -19,9 +19,6 @@ same-length c = search needs
 
 same-length-2 : tie.Need-same-length-2 Inv-loop μ-loop
 same-length-2 c = search needs
-
-same-length-3 : tie.Need-same-length-3 Inv-loop μ-loop
-same-length-3 c = search needs
 
 returns : tie.Need-returns Inv-loop μ-loop
 returns c = search needs
@@ -38,14 +35,11 @@ loop-less c = search needs
 loop-again : tie.Need-loop-again Inv-loop μ-loop
 loop-again c = search needs
 
+same-length-3 : tie.Need-same-length-3 Inv-loop μ-loop
+same-length-3 c = search needs
+
 same-length-4 : tie.Need-same-length-4 Inv-loop μ-loop
 same-length-4 c = search needs
-
-same-length-5 : tie.Need-same-length-5 Inv-loop μ-loop
-same-length-5 c = search needs
-
-same-length-6 : tie.Need-same-length-6 Inv-loop μ-loop
-same-length-6 c = search needs
 
 returns-2 : tie.Need-returns-2 Inv-loop μ-loop
 returns-2 c = search needs
@@ -59,13 +53,11 @@ all-spec =
     loop-holds
     same-length
     same-length-2
-    same-length-3
     returns
     some-requires
     sub-turns
     loop-less
     loop-again
+    same-length-3
     same-length-4
-    same-length-5
-    same-length-6
     returns-2)

@@ -1,13 +1,13 @@
--- `sheetrun::play::unhex` meets its contract. Assumes nothing.
+-- `sheetrun::play::unhex` is safe and ends. The measure is what is left of the bytes. Assumes nothing.
 use borrow.Author.Needs.{needs}
-use Prim.Native.Nat.{_-_, _/_}
+use Prim.Native.Nat.{_≤_, _-_, _/_}
 use mathlib.Core.Path.{_≡_}
 use lib.ListN.{length}
 use Rattle.sheetrun.proofs.play.unhex.Statement.{statement}
 use Rattle.sheetrun.proofs.play.unhex.Tie as tie
 
 abbrev Inv-loop : tie.InvT-loop
-Inv-loop line out₀ n i₀ out i = (n ≡ length line / 2) × (length out ≡ length out₀)
+Inv-loop line out₀ n i₀ out i = (n ≡ length line / 2) × (n ≤ length out₀) × (length out ≡ length out₀)
 
 abbrev μ-loop : tie.MeasureT-loop
 μ-loop line out₀ n i₀ out i = n - i
@@ -21,29 +21,38 @@ returns-2 c = search needs
 loop-holds : tie.Need-loop-holds Inv-loop μ-loop
 loop-holds c = search needs
 
-mul-pair : tie.Need-mul-pair Inv-loop μ-loop
-mul-pair c = search needs
+mul-byte-of : tie.Need-mul-byte-of Inv-loop μ-loop
+mul-byte-of c = search needs
 
-shared-slice-read-pair : tie.Need-shared-slice-read-pair Inv-loop μ-loop
-shared-slice-read-pair c = search needs
+shared-slice-read-byte-of : tie.Need-shared-slice-read-byte-of Inv-loop μ-loop
+shared-slice-read-byte-of c = search needs
 
-mul-pair-2 : tie.Need-mul-pair-2 Inv-loop μ-loop
-mul-pair-2 c = search needs
+mul-byte-of-2 : tie.Need-mul-byte-of-2 Inv-loop μ-loop
+mul-byte-of-2 c = search needs
 
-add-pair : tie.Need-add-pair Inv-loop μ-loop
-add-pair c = search needs
+add-byte-of : tie.Need-add-byte-of Inv-loop μ-loop
+add-byte-of c = search needs
 
-shared-slice-read-pair-2 : tie.Need-shared-slice-read-pair-2 Inv-loop μ-loop
-shared-slice-read-pair-2 c = search needs
+shared-slice-read-byte-of-2 : tie.Need-shared-slice-read-byte-of-2 Inv-loop μ-loop
+shared-slice-read-byte-of-2 c = search needs
 
-pair-requires : tie.Need-pair-requires Inv-loop μ-loop
-pair-requires c κs = search needs
+byte-of-requires : tie.Need-byte-of-requires Inv-loop μ-loop
+byte-of-requires c κs = search needs
+
+enum-known-r : tie.Need-enum-known-r Inv-loop μ-loop
+enum-known-r c = search needs
+
+enum-told : tie.Need-enum-told Inv-loop μ-loop
+enum-told c = search needs
 
 same-length : tie.Need-same-length Inv-loop μ-loop
 same-length c = search needs
 
 returns-3 : tie.Need-returns-3 Inv-loop μ-loop
 returns-3 c = search needs
+
+slice-write-out : tie.Need-slice-write-out Inv-loop μ-loop
+slice-write-out c = search needs
 
 add-i : tie.Need-add-i Inv-loop μ-loop
 add-i c = search needs
@@ -69,14 +78,17 @@ unhex-spec =
     returns
     returns-2
     loop-holds
-    mul-pair
-    shared-slice-read-pair
-    mul-pair-2
-    add-pair
-    shared-slice-read-pair-2
-    pair-requires
+    mul-byte-of
+    shared-slice-read-byte-of
+    mul-byte-of-2
+    add-byte-of
+    shared-slice-read-byte-of-2
+    byte-of-requires
+    enum-known-r
+    enum-told
     same-length
     returns-3
+    slice-write-out
     add-i
     loop-less
     loop-again

@@ -1,5 +1,5 @@
 -- `text::double::bits_of` meets its contract. Assumes nothing.
-use Rattle.text.proofs.Doubles.{is-nan, no-nan}
+use Rattle.text.proofs.double.Doubles.{is-nan, no-nan}
 use borrow.Author.Needs.{needs}
 use Rattle.text.proofs.double.bits_of.Statement.{statement}
 use Rattle.text.proofs.double.bits_of.Tie as tie

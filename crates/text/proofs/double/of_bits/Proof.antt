@@ -1,5 +1,5 @@
 -- `text::double::of_bits` meets its contract. Assumes nothing.
-use Rattle.text.proofs.Doubles.{nan-bits, number-bits}
+use Rattle.text.proofs.double.Doubles.{nan-bits, number-bits}
 use borrow.Author.Needs.{needs}
 use Rattle.text.proofs.double.of_bits.Statement.{statement}
 use Rattle.text.proofs.double.of_bits.Tie as tie

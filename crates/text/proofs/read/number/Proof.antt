@@ -1,5 +1,5 @@
 -- `text::read::number` meets its contract. Assumes nothing.
-use Rattle.text.proofs.Reading.{is-small, number-stop, number-over, number-go, number-end}
+use Rattle.text.proofs.read.Reading.{is-small, number-stop, number-over, number-go, number-end}
 use Prim.Native.Nat.{_-_}
 use mathlib.Core.Path.{_≡_, refl, sym, _∙_}
 use native.Mathlib.Omega.{arith}

@@ -1,0 +1,19 @@
+-- The demands, and the laws that they stand on.
+pub mod Effects
+pub mod Leavings
+pub mod Reading
+pub mod Surplus
+pub mod Keeping
+pub mod Histories
+pub mod Alikes
+pub mod Tabled
+pub mod SearchTable
+pub mod Laws
+pub mod AsFresh
+pub mod SearchAnswers
+pub mod FactoringTable
+pub mod LeafTable
+pub mod Tables
+pub mod Ties
+pub mod CallWitnesses
+pub mod Demands

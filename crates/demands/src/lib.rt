@@ -1,0 +1,1 @@
+// Nothing runs here: the demands as theorems, over the contracts of the crates below.

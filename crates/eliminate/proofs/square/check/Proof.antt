@@ -1,0 +1,44 @@
+-- `eliminate::square::check` meets its contract. Assumes nothing.
+use mathlib.Core.Path.{sym, _∙_}
+use native.Mathlib.Omega.{arith}
+use borrow.Author.Needs.{needs}
+use borrow.Author.Tests.{eq-eqb, ne-eqb}
+use Rattle.leaves.specs.Tests.{firstOf}
+use Rattle.eliminate.proofs.Lent.{few-columns, few-cells}
+use Rattle.eliminate.proofs.square.check.Statement.{statement}
+use Rattle.eliminate.proofs.square.check.Tie as tie
+
+outside-requires : tie.Need-outside-requires
+outside-requires c κs = search needs
+
+returns : tie.Need-returns
+unfolding firstOf
+returns c = rw (sym (c .before .outside .ensures) ∙ c .if1 .taken)
+
+mul-if2 : tie.Need-mul-if2
+mul-if2 c = omega (arith, few-cells (few-columns _ (sym (c .before .outside .ensures) ∙ c .if1 .left)))
+
+returns-2 : tie.Need-returns-2
+unfolding firstOf
+returns-2 c = rw (sym (c .before .before .outside .ensures) ∙ c .before .if1 .left, ne-eqb _ _ (c .if2 .taken))
+
+returns-3 : tie.Need-returns-3
+unfolding firstOf
+returns-3 c = rw (sym (c .before .before .before .outside .ensures) ∙ c .before .before .if1 .left, eq-eqb _ _ (c .before .if2 .left), ne-eqb _ _ (c .if3 .taken))
+
+returns-4 : tie.Need-returns-4
+unfolding firstOf
+returns-4 c = rw (sym (c .before .before .before .before .outside .ensures) ∙ c .before .before .before .if1 .left, eq-eqb _ _ (c .before .before .if2 .left), eq-eqb _ _ (c .before .if3 .left), ne-eqb _ _ (c .if4 .taken))
+
+returns-5 : tie.Need-returns-5
+unfolding firstOf
+returns-5 c = rw (sym (c .before .before .before .before .before .outside .ensures) ∙ c .before .before .before .before .if1 .left, eq-eqb _ _ (c .before .before .before .if2 .left), eq-eqb _ _ (c .before .before .if3 .left), eq-eqb _ _ (c .before .if4 .left), ne-eqb _ _ (c .if5 .taken))
+
+returns-6 : tie.Need-returns-6
+unfolding firstOf
+returns-6 c = rw (sym (c .before .before .before .before .before .outside .ensures) ∙ c .before .before .before .before .if1 .left, eq-eqb _ _ (c .before .before .before .if2 .left), eq-eqb _ _ (c .before .before .if3 .left), eq-eqb _ _ (c .before .if4 .left), eq-eqb _ _ (c .if5 .left))
+
+pub check-spec : {M : Type 1} → statement M
+check-spec =
+    tie.close
+    (tie.spec outside-requires returns mul-if2 returns-2 returns-3 returns-4 returns-5 returns-6)

@@ -1,0 +1,2 @@
+-- Laws of the held calls' workings.
+pub mod Helds

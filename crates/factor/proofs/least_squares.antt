@@ -1,0 +1,2 @@
+-- Laws of the solves' public calls.
+pub mod Outcomes

@@ -1,0 +1,2 @@
+-- Laws of factoring's public call.
+pub mod Factorings

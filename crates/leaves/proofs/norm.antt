@@ -1,0 +1,2 @@
+-- Laws of the norm.
+pub mod Sides

@@ -1,0 +1,2 @@
+-- Laws of copying and clearing in pieces.
+pub mod Piecewise

@@ -1,0 +1,2 @@
+-- Laws of the leaves on vectors.
+pub mod Entries

@@ -1,0 +1,2 @@
+-- Laws of feeding.
+pub mod Feeding

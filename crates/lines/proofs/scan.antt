@@ -1,0 +1,2 @@
+-- Laws of scanning.
+pub mod Scanning

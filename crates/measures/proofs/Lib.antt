@@ -1,0 +1,5 @@
+-- Laws that belong to no one function.
+pub mod Measured
+pub mod Answers
+pub mod OneMeasure
+pub mod Examples

@@ -1,0 +1,94 @@
+-- No second outcome fits the contract of a call of module 6: `Post` is what the source's `ensures` says. Assumes nothing.
+use Prim.Native.Nat.{ℕ}
+use mathlib.Core.Path.{_≡_, sym, ap, _∙_}
+use mathlib.Core.Bool.{Bool}
+use lib.Ieee.{Float}
+use contract.Lifetimes.{Lfts}
+use denote.Ref.{now}
+use borrow.Fn.World.{ArgsD}
+use borrow.Fn.Kinds.{endedOf}
+use denote.Triple.Clauses.{AtExit}
+use Rattle.leaves.specs.declared.reply.Place.{Place}
+use Rattle.leaves.specs.declared.reply.Value.{Value}
+use Rattle.leaves.proofs.Replies.{placeOf-same, valueOf-same}
+use Rattle.factor.specs.Outcome.{Told, Ended}
+use Rattle.measures.specs.Rescale.{Scaled}
+use Rattle.factor.specs.declared.answer.Truth.{Truth}
+use Rattle.measures.specs.declared.gradient.Gradient.{Gradient}
+use Rattle.measures.specs.declared.scaling.Scaling.{Scaling}
+use Rattle.factor.specs.declared.state.State.{State}
+use Rattle.factor.proofs.Answers.{truthOf-same}
+use Rattle.measures.proofs.Answers.{gradientOf-same, scalingOf-same}
+use Rattle.measures.specs.declared.measures.GradientTold.{GradientTold}
+use Rattle.measures.specs.declared.measures.ValueTold.{ValueTold}
+use Rattle.measures.specs.declared.measures.PlaceTold.{PlaceTold}
+use Rattle.measures.specs.declared.measures.TruthTold.{TruthTold}
+use Rattle.measures.specs.declared.update_diag.ScalingTold.{ScalingTold}
+use Rattle.measures.proofs.measures.max_a_t_b_scaled.{signature as max-a-t-b-scaled-signature}
+use Rattle.measures.proofs.measures.max_a_t_b_scaled.Reads as max-a-t-b-scaled
+use Rattle.measures.proofs.measures.max_a_t_b_scaled.Kinds as max-a-t-b-scaled-kinds
+use Rattle.measures.proofs.measures.a_x_norm.{signature as a-x-norm-signature}
+use Rattle.measures.proofs.measures.a_x_norm.Reads as a-x-norm
+use Rattle.measures.proofs.measures.a_x_norm.Kinds as a-x-norm-kinds
+use Rattle.measures.proofs.measures.determined.{signature as determined-signature}
+use Rattle.measures.proofs.measures.determined.Reads as determined
+use Rattle.measures.proofs.measures.determined.Kinds as determined-kinds
+use Rattle.measures.proofs.measures.is_non_singular.{signature as is-non-singular-signature}
+use Rattle.measures.proofs.measures.is_non_singular.Reads as is-non-singular
+use Rattle.measures.proofs.measures.is_non_singular.Kinds as is-non-singular-kinds
+use Rattle.measures.proofs.update_diag.update_diag.{signature as update-diag-signature}
+use Rattle.measures.proofs.update_diag.update_diag.Reads as update-diag
+use Rattle.measures.proofs.update_diag.update_diag.Kinds as update-diag-kinds
+
+gradient-told : {r t : GradientTold} → r .answer ≡ t .answer → r .state ≡ t .state → r ≡ t
+gradient-told {r = r} {t = t} e f =
+    ap (λ (a : Gradient). record { answer = a; state = r .state }) e ∙ ap (λ (s : State). record { answer = t .answer; state = s }) f
+
+pub max-a-t-b-scaled-one-outcome : (κs : Lfts 2) (a : ArgsD max-a-t-b-scaled-signature κs) (r₁ r₂ : GradientTold) (s₁ s₂ : AtExit (endedOf 2 max-a-t-b-scaled-kinds.ps max-a-t-b-scaled-kinds.r) κs)
+    → max-a-t-b-scaled.Post κs a r₁ s₁ → max-a-t-b-scaled.Post κs a r₂ s₂ → (r₁ ≡ r₂) × (now (s₁ .1 .0) ≡ now (s₂ .1 .0))
+max-a-t-b-scaled-one-outcome κs a r₁ r₂ s₁ s₂ p q =
+    let e = p ∙ sym q in
+    (gradient-told (gradientOf-same (r₁ .answer) (r₂ .answer) (ap (λ (x : Told Float). x .reply) e)) (ap (λ (x : Told Float). x .state) e), ap (λ (x : Told Float). x .store) e)
+
+value-told : {r t : ValueTold} → r .answer ≡ t .answer → r .state ≡ t .state → r ≡ t
+value-told {r = r} {t = t} e f =
+    ap (λ (a : Value). record { answer = a; state = r .state }) e ∙ ap (λ (s : State). record { answer = t .answer; state = s }) f
+
+pub a-x-norm-one-outcome : (κs : Lfts 3) (a : ArgsD a-x-norm-signature κs) (r₁ r₂ : ValueTold) (s₁ s₂ : AtExit (endedOf 3 a-x-norm-kinds.ps a-x-norm-kinds.r) κs)
+    → a-x-norm.Post κs a r₁ s₁ → a-x-norm.Post κs a r₂ s₂ → (r₁ ≡ r₂) × (now (s₁ .1 .0) ≡ now (s₂ .1 .0))
+a-x-norm-one-outcome κs a r₁ r₂ s₁ s₂ p q =
+    let e = p ∙ sym q in
+    (value-told (valueOf-same (r₁ .answer) (r₂ .answer) (ap (λ (x : Told Float). x .reply) e)) (ap (λ (x : Told Float). x .state) e), ap (λ (x : Told Float). x .store) e)
+
+place-told : {r t : PlaceTold} → r .answer ≡ t .answer → r .state ≡ t .state → r ≡ t
+place-told {r = r} {t = t} e f =
+    ap (λ (a : Place). record { answer = a; state = r .state }) e ∙ ap (λ (s : State). record { answer = t .answer; state = s }) f
+
+pub determined-one-outcome : (κs : Lfts 1) (a : ArgsD determined-signature κs) (r₁ r₂ : PlaceTold) (s₁ s₂ : AtExit (endedOf 1 determined-kinds.ps determined-kinds.r) κs)
+    → determined.Post κs a r₁ s₁ → determined.Post κs a r₂ s₂ → (r₁ ≡ r₂) × (now (s₁ .1 .0) ≡ now (s₂ .1 .0))
+determined-one-outcome κs a r₁ r₂ s₁ s₂ p q =
+    let e = p ∙ sym q in
+    (place-told (placeOf-same (r₁ .answer) (r₂ .answer) (ap (λ (x : Told ℕ). x .reply) e)) (ap (λ (x : Told ℕ). x .state) e), ap (λ (x : Told ℕ). x .store) e)
+
+truth-told : {r t : TruthTold} → r .answer ≡ t .answer → r .state ≡ t .state → r ≡ t
+truth-told {r = r} {t = t} e f =
+    ap (λ (a : Truth). record { answer = a; state = r .state }) e ∙ ap (λ (s : State). record { answer = t .answer; state = s }) f
+
+pub is-non-singular-one-outcome : (κs : Lfts 1) (a : ArgsD is-non-singular-signature κs) (r₁ r₂ : TruthTold) (s₁ s₂ : AtExit (endedOf 1 is-non-singular-kinds.ps is-non-singular-kinds.r) κs)
+    → is-non-singular.Post κs a r₁ s₁ → is-non-singular.Post κs a r₂ s₂ → (r₁ ≡ r₂) × (now (s₁ .1 .0) ≡ now (s₂ .1 .0))
+is-non-singular-one-outcome κs a r₁ r₂ s₁ s₂ p q =
+    let e = p ∙ sym q in
+    (truth-told (truthOf-same (r₁ .answer) (r₂ .answer) (ap (λ (x : Told Bool). x .reply) e)) (ap (λ (x : Told Bool). x .state) e), ap (λ (x : Told Bool). x .store) e)
+
+scaling-told : {r t : ScalingTold} → r .answer ≡ t .answer → r .state ≡ t .state → r ≡ t
+scaling-told {r = r} {t = t} e f =
+    ap (λ (a : Scaling). record { answer = a; state = r .state }) e ∙ ap (λ (s : State). record { answer = t .answer; state = s }) f
+
+pub update-diag-one-outcome : (κs : Lfts 3) (a : ArgsD update-diag-signature κs) (r₁ r₂ : ScalingTold) (s₁ s₂ : AtExit (endedOf 3 update-diag-kinds.ps update-diag-kinds.r) κs)
+    → update-diag.Post κs a r₁ s₁ → update-diag.Post κs a r₂ s₂
+    → (r₁ ≡ r₂) × ((now (s₁ .1 .0) ≡ now (s₂ .1 .0)) × (now (s₁ .1 .1 .1 .0) ≡ now (s₂ .1 .1 .1 .0)))
+update-diag-one-outcome κs a r₁ r₂ s₁ s₂ p q =
+    let e = p ∙ sym q in (
+      scaling-told (scalingOf-same (r₁ .answer) (r₂ .answer) (ap (λ (x : Ended Scaled). x .reply) e)) (ap (λ (x : Ended Scaled). x .state) e),
+      (ap (λ (x : Ended Scaled). x .store) e, ap (λ (x : Ended Scaled). x .out) e),
+    )

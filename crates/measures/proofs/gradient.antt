@@ -1,0 +1,2 @@
+-- Laws of the gradient.
+pub mod Gradients

@@ -1,0 +1,2 @@
+-- Laws of the measures.
+pub mod Determineds

@@ -1,0 +1,2 @@
+-- Laws of the scaling.
+pub mod Scalings

@@ -1,0 +1,2 @@
+-- Laws of the scaling's public calls.
+pub mod Rescaled

@@ -1,0 +1,50 @@
+-- 01, module 6, 'Refusal numbers' and 'Lent room': gradient, norm of Jx, determined and the rank as their callers see them.
+use Prim.Native.Nat.{ℕ}
+use mathlib.Core.Bool.{Bool, true, false}
+use mathlib.Core.List.{List, [], _∷_, _++_}
+use lib.Dec.{eqb}
+use lib.ListN.{length, take}
+use lib.Ieee.{Float}
+use Rattle.leaves.specs.Reply.{Reply, answered, refused}
+use Rattle.leaves.specs.Number.{isFinite}
+use Rattle.leaves.specs.Tests.{firstOf}
+use Rattle.factor.specs.Room.{load, lay, rested}
+use Rattle.factor.specs.Tests.{roomTests, orderTest, finiteTest, finiteNumber, notAbove, solveTests}
+use Rattle.factor.specs.Solve.{gather, nonSingular}
+use Rattle.measures.specs.Determined.{determinedOf}
+use Rattle.measures.specs.Gradient.{gradient, jxNorm}
+use Rattle.factor.specs.declared.state.State.{State}
+use Rattle.factor.specs.Outcome.{Told, told}
+
+unfoldable pub gradientCall : State → List ℕ → Float → List Float → Told Float
+gradientCall st order bnorm store =
+    let c = firstOf (roomTests st (length store) (length order) ++ (orderTest st order ∷ finiteNumber bnorm ∷ (notAbove bnorm, 7) ∷ [])) in
+    let r = load (st .n) store in
+    elim (eqb c 0) [
+      | true ↦ told (gradient (gather (take (st .n) order) (r .norms)) bnorm (r .upper) (r .qtb)) st (lay (rested r))
+      | false ↦ told (refused c) st store
+    ]
+
+abbrev pub finiteOr8 : Float → Reply Float
+finiteOr8 x = elim (isFinite x) [ true ↦ answered x | false ↦ refused 8 ]
+
+unfoldable pub jxCall : State → List ℕ → List Float → List Float → Told Float
+jxCall st order x store =
+    let c = firstOf (solveTests st (length store) order (length x) ++ (finiteTest st x ∷ [])) in
+    let r = load (st .n) store in
+    elim (eqb c 0) [
+      | true ↦ told (finiteOr8 (jxNorm (gather (take (st .n) order) x) (r .upper))) st (lay (rested r))
+      | false ↦ told (refused c) st store
+    ]
+
+unfoldable pub determinedCall : State → List Float → Told ℕ
+determinedCall st store =
+    let c = firstOf (roomTests st (length store) (st .n)) in
+    let r = load (st .n) store in
+    elim (eqb c 0) [ true ↦ told (answered (determinedOf (st .m) (r .upper))) st (lay (rested r)) | false ↦ told (refused c) st store ]
+
+unfoldable pub nonSingularCall : State → List Float → Told Bool
+nonSingularCall st store =
+    let c = firstOf (roomTests st (length store) (st .n)) in
+    let r = load (st .n) store in
+    elim (eqb c 0) [ true ↦ told (answered (nonSingular (st .m) (st .n) (r .upper))) st (lay (rested r)) | false ↦ told (refused c) st store ]

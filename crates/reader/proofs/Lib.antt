@@ -1,0 +1,2 @@
+-- That no contract of the reader is met by two outcomes.
+pub mod OneReader

@@ -1,0 +1,6 @@
+-- Laws that belong to no one function.
+pub mod Begins
+pub mod Pivots
+pub mod Fitting
+pub mod Lent
+pub mod Unique

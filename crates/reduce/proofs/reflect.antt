@@ -1,0 +1,2 @@
+-- Laws of the reflection.
+pub mod Reductions

@@ -1,0 +1,16 @@
+-- `reduce::wrap::norm_of` meets its contract. Assumes nothing.
+use mathlib.Core.Path.{ap, _∙_}
+use borrow.Author.Needs.{needs}
+use Rattle.leaves.specs.declared.norm.Normed.{Normed}
+use Rattle.leaves.proofs.Norms.{norm-carried}
+use Rattle.reduce.proofs.wrap.norm_of.Statement.{statement}
+use Rattle.reduce.proofs.wrap.norm_of.Tie as tie
+
+enorm-requires : tie.Need-enorm-requires
+enorm-requires c κs = search needs
+
+returns : tie.Need-returns
+returns c = ap (λ (s : Normed). s .value) (c .enorm .ensures) ∙ norm-carried (c .before .before .args .v .now) (c .before .before .pre)
+
+pub norm-of-spec : {M : Type 1} → statement M
+norm-of-spec = tie.close (tie.spec enorm-requires returns)

@@ -1,0 +1,67 @@
+// Document 01, module 2: what factoring starts from.
+use crate::reduce::norm_from;
+use crate::wrap::copy_of;
+use leaves::pieces::copy_long;
+use leaves::vector::count;
+ghost use mathlib.Core.Path.{_≡_};
+ghost use mathlib.Core.List.{_++_, map};
+ghost use Prim.Native.Nat.{_+_, _*_, _<_, _≤_};
+ghost use lib.ListN.{length, take};
+ghost use Rattle.leaves.specs.Norm.{norm};
+ghost use Rattle.leaves.specs.Triangle.{columns};
+ghost use Rattle.reduce.specs.Reduction.{start};
+ghost use Rattle.reduce.specs.Bench.{grid, Benched, underWay};
+
+fn copy_in(m: usize, n: usize, jacobian: &[f64], residuals: &[f64], bench: &mut [f64])
+    requires { ⌜ Benched m n (now bench) ⌝ }
+    requires { ⌜ m * n ≤ length (now jacobian) ⌝ }
+    requires { ⌜ m ≤ length (now residuals) ⌝ }
+    ensures { λ _. ⌜ now (bench .exit) ≡ take (m * n) (now (jacobian .entry)) ++ take m (now (residuals .entry)) ⌝ }
+{
+    let p = m * n;
+    let e = p + m;
+    copy_long(&jacobian[..p], &mut bench[..p]);
+    copy_of(&residuals[..m], &mut bench[p..e]);
+}
+
+fn norms_in(m: usize, n: usize, bench: &[f64], norms: &mut [f64])
+    requires { ⌜ Benched m n (now bench) ⌝ }
+    requires { ⌜ 0 < m ⌝ }
+    requires { ⌜ length (now norms) ≡ n ⌝ }
+    ensures { λ _. ⌜ now (norms .exit) ≡ map norm (take n (grid m n (now (bench .entry)))) ⌝ }
+{
+    let mut k = 0;
+    while k < n {
+        norms[k] = norm_from(m, n, k, 0, bench);
+        k += 1;
+    }
+}
+
+pub(crate) fn begin(
+    m: usize,
+    n: usize,
+    jacobian: &[f64],
+    residuals: &[f64],
+    norms: &mut [f64],
+    diag: &mut [f64],
+    work: &mut [f64],
+    order: &mut [usize],
+    bench: &mut [f64],
+)
+    requires { ⌜ Benched m n (now bench) ⌝ }
+    requires { ⌜ 0 < m ⌝ }
+    requires { ⌜ m * n ≤ length (now jacobian) ⌝ }
+    requires { ⌜ m ≤ length (now residuals) ⌝ }
+    requires { ⌜ length (now norms) ≡ n ⌝ }
+    requires { ⌜ length (now diag) ≡ n ⌝ }
+    requires { ⌜ length (now work) ≡ n ⌝ }
+    requires { ⌜ length (now order) ≡ n ⌝ }
+    ensures { λ _. ⌜ now (norms .exit) ≡ map norm (columns m n (now (jacobian .entry))) ⌝ }
+    ensures { λ _. ⌜ underWay m n (now (bench .exit)) (now (diag .exit)) (now (work .exit)) (now (order .exit)) ≡ start (columns m n (now (jacobian .entry))) (take m (now (residuals .entry))) ⌝ }
+{
+    copy_in(m, n, jacobian, residuals, bench);
+    norms_in(m, n, bench, norms);
+    copy_of(norms, diag);
+    copy_of(norms, work);
+    count(order);
+}

@@ -1,0 +1,99 @@
+// Document 01, modules 2 and 3: the reduction on lent slices.
+use crate::beginning::begin;
+use crate::reduce::reduce;
+use leaves::reply::Done;
+use leaves::sizes::outside;
+use leaves::sizes::room16;
+ghost use mathlib.Core.Path.{_≡_};
+ghost use lib.ListN.{length};
+ghost use Rattle.leaves.specs.Reply.{doneOf};
+ghost use Rattle.leaves.specs.Tests.{firstOf};
+ghost use Rattle.reduce.specs.Reduced.{reduced, reduceTests, reduceCall};
+
+fn room128() -> [f64; 128]
+    ensures { λ r. ⌜ length r ≡ 128 ⌝ }
+{
+    [0.0; 128]
+}
+
+fn check(
+    m: usize,
+    n: usize,
+    jacobian: usize,
+    residuals: usize,
+    norms: usize,
+    diag: usize,
+    order: usize,
+    bench: usize,
+) -> u8
+    ensures { λ r. ⌜ r ≡ firstOf (reduceTests m n jacobian residuals norms diag order bench) ⌝ }
+{
+    if outside(m, n) {
+        return 2;
+    }
+    if jacobian != m * n {
+        return 3;
+    }
+    if residuals != m {
+        return 3;
+    }
+    if norms != n {
+        return 3;
+    }
+    if diag != n {
+        return 3;
+    }
+    if order != n {
+        return 3;
+    }
+    if bench != m * n + m { 3 } else { 0 }
+}
+
+// Reduces a Jacobian to R by reflections with column pivoting, and its residuals with it.
+//
+// m, n: rows and columns. jacobian: m·n numbers, column by column, only read. residuals: m numbers, only read. norms: n numbers, not read;
+// on exit the norms of the Jacobian's columns. diag: n numbers, not read; on exit R's diagonal, min(m, n) of them by reflections. order: n
+// places, not read; on exit the column that stands at each. bench: m·n + m numbers, not read; on exit the reduced columns, column k with
+// R's first k, and then the transformed residuals.
+// Refused 2 for m outside 1 to 128 or n outside 1 to 16, 3 where a slice is not of its exact length; every slice is then as it was.
+pub fn reduce_bench(
+    m: usize,
+    n: usize,
+    jacobian: &[f64],
+    residuals: &[f64],
+    norms: &mut [f64],
+    diag: &mut [f64],
+    order: &mut [usize],
+    bench: &mut [f64],
+) -> Done
+    ensures { λ r. ⌜ reduced (doneOf r) (now (norms .exit)) (now (diag .exit)) (now (order .exit)) (now (bench .exit)) ≡ reduceCall m n (now (jacobian .entry)) (now (residuals .entry)) (now (norms .entry)) (now (diag .entry)) (now (order .entry)) (now (bench .entry)) ⌝ }
+{
+    let c = check(
+        m,
+        n,
+        jacobian.len(),
+        residuals.len(),
+        norms.len(),
+        diag.len(),
+        order.len(),
+        bench.len(),
+    );
+    if c != 0 {
+        return Done::Refused(c);
+    }
+    let mut work = room16();
+    let mut axis = room128();
+    begin(
+        m,
+        n,
+        jacobian,
+        residuals,
+        norms,
+        diag,
+        &mut work[..n],
+        order,
+        bench,
+    );
+    reduce(m, n, bench, diag, &mut work[..n], order, &mut axis[..]);
+    Done::Written
+}

@@ -1,0 +1,150 @@
+// What an item answers.
+use crate::room;
+use factor::answer::Truth;
+use factor::state::State;
+use factor::state::Told;
+use leaves::reply::Done;
+use leaves::reply::Place;
+use leaves::reply::Value;
+use measures::gradient::Gradient;
+use measures::measures::GradientTold;
+use measures::measures::PlaceTold;
+use measures::measures::TruthTold;
+use measures::measures::ValueTold;
+use measures::scaling::Scaling;
+use search::trust_region::Found;
+use search::trust_region::SearchTold;
+
+// The values of a call, or its refusal. The last three are for an item that is no call, or that is not played.
+pub(crate) enum Reply {
+    Plain,
+    Number(f64),
+    Numbers(f64, f64),
+    Place(usize),
+    Sought(f64, f64, usize),
+    Refused(u8),
+    Quiet,
+    Large,
+    Unread,
+}
+
+// What stands between the answer and the rooms: that the reader left anything else, or the lent scaling.
+pub(crate) enum Extra {
+    Nothing,
+    Differs,
+    Scaling,
+}
+
+// The state after an item, and whether it was a call, after which the rooms are printed. The lent scaling is the first len numbers.
+pub(crate) struct After {
+    pub(crate) state: State,
+    pub(crate) reply: Reply,
+    pub(crate) called: bool,
+    pub(crate) extra: Extra,
+    pub(crate) scaling: [f64; 64],
+    pub(crate) len: usize,
+}
+
+fn left(state: State, reply: Reply, called: bool, extra: Extra) -> After {
+    let none = room::vector();
+    After {
+        state: state,
+        reply: reply,
+        called: called,
+        extra: extra,
+        scaling: none,
+        len: 0,
+    }
+}
+
+fn answered(state: State, reply: Reply) -> After {
+    left(state, reply, true, Extra::Nothing)
+}
+
+// A held call's answer, and whether the reader left the same.
+pub(crate) fn held(t: Told, same: bool) -> After {
+    let answer = t.answer;
+    let state = t.state;
+    let reply = of_done(answer);
+    if same {
+        return left(state, reply, true, Extra::Nothing);
+    }
+    left(state, reply, true, Extra::Differs)
+}
+
+pub(crate) fn quiet(state: State) -> After {
+    left(state, Reply::Quiet, false, Extra::Nothing)
+}
+
+pub(crate) fn unplayed(large: bool, state: State) -> After {
+    if large {
+        return left(state, Reply::Large, false, Extra::Nothing);
+    }
+    left(state, Reply::Unread, false, Extra::Nothing)
+}
+
+fn of_done(r: Done) -> Reply {
+    match r {
+        Done::Written => Reply::Plain,
+        Done::Refused(k) => Reply::Refused(k),
+    }
+}
+
+pub(crate) fn told(t: Told) -> After {
+    let answer = t.answer;
+    let state = t.state;
+    answered(state, of_done(answer))
+}
+
+pub(crate) fn of_gradient(t: GradientTold) -> After {
+    let answer = t.answer;
+    let state = t.state;
+    match answer {
+        Gradient::Measure(x) => answered(state, Reply::Number(x)),
+        Gradient::Refused(k) => answered(state, Reply::Refused(k)),
+    }
+}
+
+pub(crate) fn of_value(t: ValueTold) -> After {
+    let answer = t.answer;
+    let state = t.state;
+    match answer {
+        Value::Is(x) => answered(state, Reply::Number(x)),
+        Value::Refused(k) => answered(state, Reply::Refused(k)),
+    }
+}
+
+pub(crate) fn of_place(t: PlaceTold) -> After {
+    let answer = t.answer;
+    let state = t.state;
+    match answer {
+        Place::At(i) => answered(state, Reply::Place(i)),
+        Place::Refused(k) => answered(state, Reply::Refused(k)),
+    }
+}
+
+pub(crate) fn of_truth(t: TruthTold) -> After {
+    let answer = t.answer;
+    let state = t.state;
+    match answer {
+        Truth::Is(yes) => answered(state, Reply::Place(yes as usize)),
+        Truth::Refused(k) => answered(state, Reply::Refused(k)),
+    }
+}
+
+pub(crate) fn of_search(t: SearchTold) -> After {
+    let answer = t.answer;
+    let state = t.state;
+    match answer {
+        Found::Answer(a) => answered(state, Reply::Sought(a.lambda, a.dp_norm, a.trials)),
+        Found::Refused(k) => answered(state, Reply::Refused(k)),
+    }
+}
+
+pub(crate) fn of_scaling(r: Scaling) -> Reply {
+    match r {
+        Scaling::First(t) => Reply::Numbers(t.xnorm, t.radius),
+        Scaling::Later => Reply::Plain,
+        Scaling::Refused(k) => Reply::Refused(k),
+    }
+}

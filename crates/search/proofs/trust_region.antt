@@ -1,0 +1,2 @@
+-- Laws of the search's public call.
+pub mod Answering

@@ -1,0 +1,74 @@
+-- The answer of a search, by the two tests after its undamped step. Assumes nothing.
+use mathlib.Core.Path.{_≡_, refl, sym, ap, _∙_}
+use mathlib.Core.Bool.{Bool, true, false}
+use mathlib.Core.List.{List}
+use Prim.Native.Nat.{ℕ}
+use lib.Ieee.{Float, binary64, sub, le}
+use Rattle.leaves.specs.Reply.{Reply, answered, refused}
+use Rattle.leaves.specs.Number.{plusZero, isFinite}
+use Rattle.factor.specs.Room.{Room}
+use Rattle.factor.specs.declared.state.State.{State}
+use Rattle.search.specs.Problem.{Problem, placed, undampedStep, scaledStep, scaledNorm}
+use Rattle.search.specs.Bounds.{lowerBound, gnorm, band}
+use Rattle.search.specs.Run as run
+use Rattle.search.specs.Run.{Run, lower-bound, gradient-norm, runOf}
+use Rattle.search.specs.Search.{problemOf, Answer, answer, concluded, answerOf}
+use Rattle.search.specs.Read.{unanswered, damped}
+use Rattle.search.proofs.Trying.{any-answer}
+
+-- ---- a run from the bounds on is not read before its first trial
+bounds-any : (a b : Answer) (rest : Run) (x y : Bool) → concluded 0 a rest ≡ concluded 0 b rest
+    → concluded 0 a (elim x [ true ↦ elim y [ true ↦ rest | false ↦ run.refused gradient-norm ] | false ↦ run.refused lower-bound ])
+    ≡ concluded 0 b (elim x [ true ↦ elim y [ true ↦ rest | false ↦ run.refused gradient-norm ] | false ↦ run.refused lower-bound ])
+unfolding concluded
+bounds-any a b rest true true h = h
+bounds-any a b rest true false h = refl
+bounds-any a b rest false y h = refl
+
+damped-any : (a b : Answer) (p : Problem) (initial : Float) (step : List Float) → concluded 0 a (damped p initial step) ≡ concluded 0 b (damped p initial step)
+damped-any a b p initial step =
+    let fp = sub binary64 (scaledNorm p step) (p .radius) in
+    bounds-any a b _ (isFinite (lowerBound p step fp)) (isFinite (gnorm p)) (any-answer 0 a b p 9 _)
+
+module _ (p : Problem) (initial : Float) {step : List Float} {n : Float} (e : step ≡ undampedStep p) (d : n ≡ scaledNorm p step) where
+  norm-is : scaledNorm p (undampedStep p) ≡ n
+  norm-is = ap (scaledNorm p) (sym e) ∙ sym d
+
+  pub no-norm : isFinite n ≡ false → refused 8 ≡ answerOf p initial
+  unfolding answerOf runOf concluded
+  no-norm h = let f : isFinite (scaledNorm p (undampedStep p)) ≡ false = rw norm-is h in rw (f, concluded)
+
+  module _ (h : isFinite n ≡ true) where
+    abbrev finite-norm : isFinite (scaledNorm p (undampedStep p)) ≡ true
+    finite-norm = rw norm-is h
+
+    pub taken : le (sub binary64 n (p .radius)) (band (p .radius)) ≡ true → answered (answer plusZero n 0 step) ≡ answerOf p initial
+    unfolding answerOf runOf concluded
+    taken w =
+        let w′ : le (sub binary64 (scaledNorm p (undampedStep p)) (p .radius)) (band (p .radius)) ≡ true = rw norm-is w in
+        rw (finite-norm, w′, concluded, d, e)
+
+    pub not-taken : {r : Reply Answer} → le (sub binary64 n (p .radius)) (band (p .radius)) ≡ false → r ≡ concluded 0 unanswered (damped p initial step) → r ≡ answerOf p initial
+    unfolding answerOf runOf
+    not-taken w k =
+        let w′ : le (sub binary64 (scaledNorm p (undampedStep p)) (p .radius)) (band (p .radius)) ≡ false = rw norm-is w in
+        let a = answer plusZero (scaledNorm p (undampedStep p)) 0 (undampedStep p) in
+        k ∙ ap (λ (x : List Float). concluded 0 unanswered (damped p initial x)) e ∙ damped-any unanswered a p initial (undampedStep p)
+        ∙ ap (concluded 0 a) (by (damped p initial (undampedStep p)) finite-norm w′)
+      where
+        by : (rest : Run) {x y : Bool} → x ≡ true → y ≡ false
+            → rest ≡ elim x [ true ↦ elim y [ true ↦ run.stopped run.undamped | false ↦ rest ] | false ↦ run.refused run.undamped-norm ]
+        by rest u w = rw (u, w)
+
+-- ---- neither the undamped step nor what it is scaled to reads the radius
+module _ (st : State) (order : List ℕ) (diag : List Float) (x y : Float) (r : Room) (w : List Float) where
+  pub undamped-asked : placed (problemOf st order diag x r) w ≡ undampedStep (problemOf st order diag x r) → placed (problemOf st order diag y r) w ≡ undampedStep (problemOf st order diag y r)
+  unfolding undampedStep placed
+  undamped-asked h = h
+
+  pub scaled-asked : {v : List Float} → v ≡ scaledStep (problemOf st order diag x r) (placed (problemOf st order diag x r) w) → v ≡ scaledStep (problemOf st order diag y r) (placed (problemOf st order diag y r) w)
+  unfolding placed
+  scaled-asked h = h
+
+pub band-test : (x radius : Float) {y : Float} {b : Bool} → y ≡ band radius → le x y ≡ b → le x (band radius) ≡ b
+band-test x radius e h = ap (le x) (sym e) ∙ h

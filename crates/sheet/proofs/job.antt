@@ -1,0 +1,2 @@
+-- Laws of a sheet's job.
+pub mod Jobs

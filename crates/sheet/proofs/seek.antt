@@ -1,0 +1,2 @@
+-- Laws of seeking fields.
+pub mod Seeking

@@ -1,0 +1,2 @@
+-- Laws of doubles.
+pub mod Doubles
