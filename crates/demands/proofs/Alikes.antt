@@ -23,8 +23,8 @@ use Rattle.reduce.specs.Reduction.{Reduction, reduction-of}
 use Rattle.factor.specs.Factoring.{uppers, transformed, noLower, Factored, factored, factorTests, factoredRoom, finiteRoom, factorWorked, factorCall}
 use Rattle.factor.specs.Outcome.{written}
 use Rattle.leaves.specs.Tests.{firstOf}
-use Rattle.factor.specs.Worked.{SquareLong}
-use Rattle.demands.specs.Calls.{Outcome, Call, perform, isHeld, run, latest}
+use Rattle.factor.specs.inner.Worked.{SquareLong}
+use Rattle.demands.specs.Calls.{StoreOutcome, StoreCall, performStore, run, latest}
 use Rattle.factor.specs.declared.state.Held.the-variants as held
 use Rattle.factor.specs.declared.state.State.{State}
 use Rattle.factor.proofs.Passed.{factor-passed}
@@ -32,16 +32,10 @@ use Rattle.leaves.proofs.Squares.{columns-length}
 use Rattle.factor.proofs.Shapes.{square-filled, order-listed}
 use Rattle.leaves.proofs.Joined.{columns-same}
 use Rattle.factor.proofs.Stores.{transformed-long}
-use Rattle.demands.proofs.Reading.{Alike, HeldAlike}
-use Rattle.demands.proofs.Keeping.{ToldAlike, Long, settling, laws}
+use Rattle.demands.proofs.Keeping.{settling, laws}
 use Rattle.demands.proofs.Histories.{run-size, run-orders, history}
-
--- two stores of enough numbers, with the same in them but work and surplus
-pub record AsFactored (st : State) (s t : List Float) : Type 0 where
-  pub long-left : Long st s
-  pub long-right : Long st t
-  pub alike : Alike (load (st .n) s) (load (st .n) t)
-  pub held-alike : HeldAlike (load (st .n) s) (load (st .n) t)
+use Rattle.demands.specs.inner.Helds.{isStoreHeld}
+use Rattle.demands.specs.Alike.{Alike, HeldAlike, ToldAlike, SameContents}
 
 -- ---- two stores that differ in their surplus alone
 module _ (n : ℕ) (front a b : List Float) (h : length front ≡ n * n + 4 * n) where
@@ -132,7 +126,7 @@ module _ (m n : ℕ) (jacobian residuals : List Float) where
   pub refactored : (s t : List Float) (o p : List ℕ) (b d : List Float) → (let g = factorCall m n jacobian residuals s o b in
       let h = factorCall m n jacobian residuals t p d in
       g .reply ≡ answered tt → h .reply ≡ answered tt
-      → AsFactored (g .state) (g .store) (h .store) × (g .state ≡ h .state) × (isEmpty (g .state .held) ≡ false))
+      → SameContents (g .state) (g .store) (h .store) × (g .state ≡ h .state) × (isEmpty (g .state .held) ≡ false))
   refactored s t o p b d x y =
       let g = accepted s o b x in
       let h = accepted t p d y in
@@ -167,11 +161,11 @@ module _ (m n : ℕ) (jacobian residuals : List Float) where
       longer a l = let e = length-append (whole .order) a in omega arith
 
 -- LAW: demand 3 for the calls of `factor` and `measures`
-pub factor-history : (order : List ℕ) (st : State) (s t : List Float) → isEmpty (st .held) ≡ false → AsFactored st s t → (cs : List Call) (c : Call)
-    → (let x = run perform order cs st s in
-    let y = run perform order (latest perform order settling [] cs st s) st t in
-    ToldAlike (perform c (x .0) order (x .1)) (perform c (y .0) order (y .1)))
-factor-history order st s t e a cs c = history perform isHeld settling laws order st t e (a .long-right) s (a .long-left) (a .alike) (a .held-alike) cs c
+pub factor-history : (order : List ℕ) (st : State) (s t : List Float) → isEmpty (st .held) ≡ false → SameContents st s t → (cs : List StoreCall) (c : StoreCall)
+    → (let x = run performStore order cs st s in
+    let y = run performStore order (latest performStore order settling [] cs st s) st t in
+    ToldAlike (performStore c (x .0) order (x .1)) (performStore c (y .0) order (y .1)))
+factor-history order st s t e a cs c = history performStore isStoreHeld settling laws order st t e (a .long-right) s (a .long-left) (a .alike) (a .held-alike) cs c
 
 -- LAW: demand 3 as it is asked: two factorings of the same Jacobian and residuals, each in its own lent slices; any run of calls after
 -- the one, and after the other the latest of them that settled; then the same call tells the same.
@@ -182,27 +176,27 @@ module _ (m n : ℕ) (jacobian residuals s t : List Float) (o p : List ℕ) (b d
   abbrev pub other : Factored
   other = factorCall m n jacobian residuals t p d
 
-  pub as-fresh : one .reply ≡ answered tt → other .reply ≡ answered tt → (cs : List Call) (c : Call)
-      → (let x = run perform (one .order) cs (one .state) (one .store) in
-      let y = run perform (other .order) (latest perform (one .order) settling [] cs (one .state) (one .store)) (other .state) (other .store) in
-      ToldAlike (perform c (x .0) (one .order) (x .1)) (perform c (y .0) (other .order) (y .1)))
+  pub as-fresh : one .reply ≡ answered tt → other .reply ≡ answered tt → (cs : List StoreCall) (c : StoreCall)
+      → (let x = run performStore (one .order) cs (one .state) (one .store) in
+      let y = run performStore (other .order) (latest performStore (one .order) settling [] cs (one .state) (one .store)) (other .state) (other .store) in
+      ToldAlike (performStore c (x .0) (one .order) (x .1)) (performStore c (y .0) (other .order) (y .1)))
   as-fresh a e cs c =
       let w = refactored m n jacobian residuals s t o p b d a e in
       let v = reordered m n jacobian residuals s t o p b d a e in
-      let last = latest perform (one .order) settling [] cs (one .state) (one .store) in
+      let last = latest performStore (one .order) settling [] cs (one .state) (one .store) in
       let k : n ≡ one .state .n = sym (ap (λ (z : State). z .n) (accepted m n jacobian residuals s o b a .1 .state)) in
       let lo = subst (λ (i : ℕ). i ≤ length (one .order)) k (v .0) in
       let lp = subst (λ (i : ℕ). i ≤ length (other .order)) k (v .1) in
       let same = subst (λ (i : ℕ). take i (one .order) ≡ take i (other .order)) k (v .2) in
       let h = factor-history (one .order) (one .state) (one .store) (other .store) (w .2) (w .0) cs c in
-      let x = run perform (one .order) cs (one .state) (one .store) in
-      let move = run-orders perform isHeld settling laws (one .order) (other .order) last (one .state) (other .store) lo lp same in
-      let y = run perform (other .order) last (one .state) (other .store) in
-      let j = run-size perform isHeld settling laws (other .order) last (one .state) (other .store) in
-      let next : perform c (y .0) (one .order) (y .1) ≡ perform c (y .0) (other .order) (y .1) =
+      let x = run performStore (one .order) cs (one .state) (one .store) in
+      let move = run-orders performStore isStoreHeld settling laws (one .order) (other .order) last (one .state) (other .store) lo lp same in
+      let y = run performStore (other .order) last (one .state) (other .store) in
+      let j = run-size performStore isStoreHeld settling laws (other .order) last (one .state) (other .store) in
+      let next : performStore c (y .0) (one .order) (y .1) ≡ performStore c (y .0) (other .order) (y .1) =
       laws c .orders (y .0) (one .order) (other .order) (y .1) (subst (λ (i : ℕ). i ≤ length (one .order)) (sym j) lo)
       (subst (λ (i : ℕ). i ≤ length (other .order)) (sym j) lp) (subst (λ (i : ℕ). take i (one .order) ≡ take i (other .order)) (sym j) same) in
-      let there = subst (λ (z : State × List Float). ToldAlike (perform c (x .0) (one .order) (x .1)) (perform c (z .0) (one .order) (z .1))) move h in
-      subst (λ (st : State). (let z = run perform (other .order) last st (other .store) in
-      ToldAlike (perform c (x .0) (one .order) (x .1)) (perform c (z .0) (other .order) (z .1)))) (w .1)
-      (subst (λ (u : Outcome). ToldAlike (perform c (x .0) (one .order) (x .1)) u) next there)
+      let there = subst (λ (z : State × List Float). ToldAlike (performStore c (x .0) (one .order) (x .1)) (performStore c (z .0) (one .order) (z .1))) move h in
+      subst (λ (st : State). (let z = run performStore (other .order) last st (other .store) in
+      ToldAlike (performStore c (x .0) (one .order) (x .1)) (performStore c (z .0) (other .order) (z .1)))) (w .1)
+      (subst (λ (u : StoreOutcome). ToldAlike (performStore c (x .0) (one .order) (x .1)) u) next there)

@@ -14,25 +14,25 @@ use Rattle.factor.specs.State.{isEmpty, empty}
 use Rattle.factor.specs.Room.{load}
 use Rattle.leaves.specs.Tests.{firstOf}
 use Rattle.factor.specs.Factoring.{Factored, factorTests, finiteRoom, factorWorked, factorCall}
-use Rattle.factor.specs.Outcome.{ended}
 use Rattle.demands.specs.Calls.{run, latest}
 use Rattle.factor.specs.declared.state.State.{State}
-use Rattle.demands.proofs.Effects as base
 use Rattle.demands.proofs.Tabled as base-table
-use Rattle.demands.proofs.Keeping.{Kept, ToldAlike}
 use Rattle.demands.proofs.Histories.{run-size, run-orders, run-keeps, history}
-use Rattle.demands.proofs.Alikes.{AsFactored, accepted, refactored, reordered}
-use Rattle.demands.specs.History.{Call, search, Outcome, ofBase, ofSearch, perform, isHeld, settling}
+use Rattle.demands.proofs.Alikes.{accepted, refactored, reordered}
+use Rattle.demands.specs.History.{Call, search, Outcome, ofBase, ofSearch, perform, settling}
 use Rattle.demands.specs.History as any
 use Rattle.demands.proofs.SearchTable as search-table
 use Rattle.demands.proofs.Laws.{laws}
+use Rattle.demands.specs.Refusals.{refusal}
+use Rattle.demands.specs.Alike.{Kept, ToldAlike, SameContents}
+use Rattle.demands.specs.inner.Helds.{isHeld}
 
 -- LAW: whatever the store, after any run R with its diagonal, qt_b, norms and surplus are bit for bit what they were.
 pub never-changed : (order : List ℕ) (cs : List Call) (st : State) (s : List Float) → Kept (load (st .n) s) (load (st .n) (run perform order cs st s .1))
 never-changed order cs st s = run-keeps perform isHeld settling laws order cs st s
 
 -- LAW: two stores with the same in them but work and surplus
-pub any-history : (order : List ℕ) (st : State) (s t : List Float) → isEmpty (st .held) ≡ false → AsFactored st s t → (cs : List Call) (c : Call)
+pub any-history : (order : List ℕ) (st : State) (s t : List Float) → isEmpty (st .held) ≡ false → SameContents st s t → (cs : List Call) (c : Call)
     → (let x = run perform order cs st s in
     let y = run perform order (latest perform order settling [] cs st s) st t in
     ToldAlike (perform c (x .0) order (x .1)) (perform c (y .0) order (y .1)))
@@ -73,11 +73,6 @@ module _ (m n : ℕ) (jacobian residuals s t : List Float) (o p : List ℕ) (b d
       (subst (λ (u : Outcome). ToldAlike (perform c (x .0) (one .order) (x .1)) u) next there)
 
 -- ---- after a refused factoring
-
--- a refusal: state, store and output as they came
-abbrev pub refusal : Call → ℕ → State → List Float → Outcome
-refusal (any.base c) k st s = ofBase (base.refusal c k st s)
-refusal (search diag radius lambda out) k st s = ofSearch (ended (refused k) st s out)
 
 -- LAW: 5 for an empty state, and everything as it came
 pub empty-call : (c : Call) (st : State) (order : List ℕ) (s : List Float) → isEmpty (st .held) ≡ true → perform c st order s ≡ refusal c 5 st s

@@ -17,7 +17,7 @@ use Rattle.factor.specs.declared.state.State.{State}
 use Rattle.factor.specs.declared.state.Held.the-variants as held
 use Rattle.search.specs.Search.{searchCall}
 use Rattle.demands.specs.History.{Call, base, Outcome, of-base, perform}
-use Rattle.demands.specs.Opened.{opened}
+use Rattle.demands.specs.inner.Opened.{opened}
 use Rattle.search.specs.declared.LMParameter.{LMParameter}
 
 -- a whole number, and 10^-e

@@ -1,8 +1,8 @@
 -- The three demands, as theorems. Read from top to bottom; each theorem is proved in the file that it cites.
 --
--- They are over the definitions that the contracts of the public functions cite, and `proofs/Ties.antt` says for each function that whatever its
--- contract lets it leave (answer, state and every lent slice) is what the definition gives: `perform c st order store` for a call c that takes a
--- state, `factorCall` for a factoring. Beside each contract stands a theorem that no second outcome fits it (`NAME-one-outcome`).
+-- They are over the definitions that the contracts of the public functions cite: each contract is one equation with its definition. `proofs/Ties.antt`
+-- says for each function that takes a state, and for factoring, that whatever its contract lets it leave (answer, state and every lent slice) is what
+-- `perform c st order store` gives, or `factorCall`. Beside each contract stands a theorem that no second outcome fits it (`NAME-one-outcome`).
 --
 -- Assumes nothing.
 use Prim.Native.Nat.{ℕ, _<_, _≤_}
@@ -16,51 +16,58 @@ use denote.Triple.Clauses.{AtExit}
 use borrow.Fn.World.{ArgsD}
 use borrow.Fn.Kinds.{endedOf}
 use lib.Dec.{T}
-use lib.ListN.{length, take, drop}
+use lib.ListN.{length, take}
 use lib.Ieee.{Float, binary64, fits, sub, lt, le}
 use Rattle.leaves.specs.Reply.{answered, refused}
-use Rattle.leaves.specs.Number.{plusZero, absOf, isFinite, dwarf}
+use Rattle.leaves.specs.Number.{plusZero, dwarf}
 use Rattle.leaves.specs.Root.{rootS}
-use Rattle.leaves.specs.Norm.{norm, enorm}
-use Rattle.leaves.specs.Product.{productAll}
-use Rattle.leaves.specs.Vector.{dot, axpy, axpyZero, imax, copy}
-use Rattle.leaves.specs.Triangle.{solveUpper}
-use Rattle.leaves.proofs.root.Meets.{IsRoot, sqrt-meets, sqrt-unique}
+use Rattle.leaves.specs.Norm.{norm}
+use Rattle.leaves.proofs.root.Meets.{sqrt-meets, sqrt-unique}
 use Rattle.factor.specs.State.{isEmpty, empty}
 use Rattle.factor.specs.Room.{load}
 use Rattle.leaves.specs.Square.{zeros}
-use Rattle.leaves.specs.Tests.{allFinite}
 use Rattle.factor.specs.Factoring.{factored, factorTests, finiteRoom, factorCall}
 use Rattle.demands.specs.Calls.{run, latest, replyNumber}
 use Rattle.factor.specs.declared.state.State.{State}
-use Rattle.leaves.proofs.Refusals.{NoneHold, RefusedBy}
-use Rattle.demands.proofs.Keeping.{Kept, ToldAlike}
-use Rattle.demands.proofs.Alikes.{AsFactored}
 use Rattle.search.specs.Problem.{Problem, undampedStep, scaledNorm}
 use Rattle.search.specs.Bounds.{band}
 use Rattle.search.specs.Run.{within, falling, runOf}
-use Rattle.search.specs.Ending.{ending}
+use Rattle.search.specs.Ending.{ending, RuledFrom}
 use Rattle.search.specs.Enorm.{minpackEnorm}
-use Rattle.search.specs.Read.{foundOf}
 use Rattle.search.specs.Search.{problemOf, searchCall}
-use Rattle.demands.specs.History.{Call, search, found, numberOf, perform, isSolve, settling}
+use Rattle.demands.specs.History.{Call, search, found, numberOf, perform, isSolve, settling, leftAs}
 use Rattle.search.specs.declared.LMParameter.{LMParameter}
 use Rattle.search.specs.declared.trust_region.SearchTold.{SearchTold}
 use Rattle.search.proofs.trust_region.determine_lambda_and_parameter_update.{signature}
 use Rattle.search.proofs.trust_region.determine_lambda_and_parameter_update.Reads as code
 use Rattle.search.proofs.trust_region.determine_lambda_and_parameter_update.Kinds as kinds
-use Rattle.demands.proofs.Ties.{left, determine-lambda-and-parameter-update-is}
+use Rattle.demands.proofs.Ties.{determine-lambda-and-parameter-update-is}
 use Rattle.search.specs.Lmpar.{lmpar}
-use Rattle.search.proofs.AgainstLmpar.{lentOf, search-answers-as-lmpar, factored-answers-as-lmpar}
+use Rattle.search.proofs.AgainstLmpar.{search-answers-as-lmpar}
+use Rattle.demands.proofs.LmparHistories.{factored-answers-as-lmpar}
 use Rattle.demands.proofs.LeafTable as leaf
+use Rattle.demands.proofs.WorkingTable as working
 use Rattle.demands.proofs.FactoringTable as factoring
-use Rattle.demands.proofs.Tables.{testsOf, Breaks, Stands, leftByEight}
 use Rattle.demands.proofs.Tables as table
-use Rattle.search.proofs.AgainstEnorm.{NoNan, norm-is-enorm}
-use Rattle.demands.proofs.AsFresh.{refusal, as-fresh, any-history, never-changed, after-refused}
-use Rattle.search.proofs.Runs.{RuledFrom}
+use Rattle.sheet.specs.Tests.{sheetTests}
+use Rattle.sheet.specs.Fit.{finished as unwritten, sheetCall}
+use Rattle.demands.proofs.SheetTable as sheets
+use Rattle.search.proofs.AgainstEnorm.{norm-is-enorm}
+use Rattle.demands.proofs.AsFresh.{as-fresh, any-history, never-changed, after-refused}
 use Rattle.search.proofs.Rules.{rules-hold}
 use Rattle.demands.proofs.SearchAnswers as told
+use Rattle.search.specs.Answers.{foundOf}
+use Rattle.leaves.specs.Refusing.{NoneHold, RefusedBy}
+use Rattle.leaves.specs.IsRoot.{IsRoot}
+use Rattle.search.specs.Against.{lentOf, NoNan}
+use Rattle.demands.specs.Refusals.{testsOf, refusal}
+use Rattle.demands.specs.Eight.{Breaks, Stands, leftByEight, sheetWorking}
+use Rattle.demands.specs.Alike.{Kept, ToldAlike, SameContents}
+use Rattle.demands.specs.Factorings.{roomMade, factoringStands, factoringBreaks}
+use Rattle.demands.specs.Workings.{Leaves, Workings, Parts, SharedTests, SheetLines}
+use Rattle.factor.specs.AsFactored.{AsFactored}
+use Rattle.factor.proofs.Answered.{answered-as-factored}
+use Rattle.demands.proofs.LinesTable.{sheet-lines}
 
 -- ==== Demand 1. "Every call ends on every input. Bad input gets the refusal that document 01 numbers, outputs stay unwritten, and the lent store
 -- and bench are left as its table says."
@@ -79,8 +86,8 @@ pub demand-1-unchanged : (c : Call) (st : State) (order : List ℕ) (store : Lis
     → perform c st order store ≡ refusal c k st store
 demand-1-unchanged = table.refused-whole
 
--- It is refused 8 exactly when no condition holds and what document 01 lists for it is not finite: of a call of `factor` an answer number (for the
--- gradient also where the Rust gives None, for a scaling also a radius rounded to zero), of the search a number at one of the six places of its run ..
+-- It is refused 8 exactly when no condition holds and what document 01 lists for it is not finite: of a call of `factor` or `measures` an answer number
+-- (for the gradient also where the Rust gives None, for a scaling also a radius rounded to zero), of the search a number at one of its run's six places ..
 pub demand-1-eight : (c : Call) (st : State) (order : List ℕ) (store : List Float)
     → (numberOf (perform c st order store .answer) ≡ 8) ↔ (NoneHold (testsOf c st order store) × Breaks c st order store)
 demand-1-eight = table.refused-eight
@@ -99,6 +106,9 @@ demand-1-answered = table.answered-otherwise
 pub demand-1-work : (c : Call) (st : State) (order : List ℕ) (store : List Float) → NoneHold (testsOf c st order store) → load (st .n) (perform c st order store .store) .work ≡ zeros (st .n)
 demand-1-work = table.work-rests
 
+-- The held calls on a store that is only read, and those through a reader, answer and write as the same call does on a store that is lent to be
+-- written (`proofs/Ties.antt`). `new`, which makes a reader, is never refused.
+
 -- Factoring: refused 2 to 7, the lent slices as they came and the state empty; refused 8 where R, a column norm or qt_b would hold a number that is
 -- not finite, the needed store and bench +0, the order 0 to n−1, the state empty; or answered, and the bench +0.
 module _ (m n : ℕ) (jacobian residuals store : List Float) (order : List ℕ) (bench : List Float) where
@@ -111,51 +121,74 @@ module _ (m n : ℕ) (jacobian residuals store : List Float) (order : List ℕ) 
   demand-1-factoring-unchanged = factoring.refused-whole m n jacobian residuals store order bench
 
   pub demand-1-factoring-eight : (replyNumber (factorCall m n jacobian residuals store order bench .reply) ≡ 8)
-      ↔ (NoneHold (factorTests m n jacobian residuals (length store) (length order) (length bench)) × (finiteRoom (factoring.room m n jacobian residuals store order bench) ≡ false))
+      ↔ (NoneHold (factorTests m n jacobian residuals (length store) (length order) (length bench)) × (finiteRoom (roomMade m n jacobian residuals store) ≡ false))
   demand-1-factoring-eight = factoring.refused-eight m n jacobian residuals store order bench
 
   pub demand-1-factoring-eight-left : replyNumber (factorCall m n jacobian residuals store order bench .reply) ≡ 8
-      → factorCall m n jacobian residuals store order bench ≡ factoring.breaks m n jacobian residuals store order bench
+      → factorCall m n jacobian residuals store order bench ≡ factoringBreaks m n store order bench
   demand-1-factoring-eight-left = factoring.eight-whole m n jacobian residuals store order bench
 
   pub demand-1-factoring-answered : (replyNumber (factorCall m n jacobian residuals store order bench .reply) ≡ 0)
-      ↔ (NoneHold (factorTests m n jacobian residuals (length store) (length order) (length bench)) × (finiteRoom (factoring.room m n jacobian residuals store order bench) ≡ true))
+      ↔ (NoneHold (factorTests m n jacobian residuals (length store) (length order) (length bench)) × (finiteRoom (roomMade m n jacobian residuals store) ≡ true))
   demand-1-factoring-answered = factoring.answered-otherwise m n jacobian residuals store order bench
 
   pub demand-1-factoring-answered-left : replyNumber (factorCall m n jacobian residuals store order bench .reply) ≡ 0
-      → factorCall m n jacobian residuals store order bench ≡ factoring.stands m n jacobian residuals store order bench
+      → factorCall m n jacobian residuals store order bench ≡ factoringStands m n jacobian residuals store order bench
   demand-1-factoring-answered-left = factoring.answered-whole m n jacobian residuals store order bench
 
--- The leaves: 2 for over 128 numbers to a norm, 3 for slices whose lengths do not fit, the output as it came. The others (helpers, root, `fill`) are
--- never refused: their contracts are equations with a number, or with what is filled.
-pub demand-1-norm : (xs : List Float) → (enorm xs ≡ refused 2) ↔ (128 < length xs)
-demand-1-norm = leaf.norm-refused
+  -- "After factoring": what the table of the lent room says of the store, +0 below R, in l_diag and in work, and every number of it finite.
+  pub demand-1-factoring-room : factorCall m n jacobian residuals store order bench .reply ≡ answered tt → AsFactored n (load n (factorCall m n jacobian residuals store order bench .store))
+  demand-1-factoring-room = answered-as-factored m n jacobian residuals store order bench
 
-pub demand-1-imax : (xs : List Float) → (imax xs ≡ refused 3) ↔ (length xs ≡ 0)
-demand-1-imax = leaf.imax-refused
+-- The leaves, a row for each that can be refused: 2 for over 128 numbers to a norm, 3 for slices whose lengths do not fit, each exactly then, the
+-- output as it came; answered otherwise. `copy_long` has `copy`'s definition. The others are never refused, their contracts are equations with a number, a
+-- truth or what is filled: those of `number`, the two roots, `fill`, `clear_long`, `count`, `all_finite`, `none_zero`, `outside`, `least`, `room16`.
+pub demand-1-leaves : Leaves
+demand-1-leaves = leaf.leaves
 
-pub demand-1-dot : (xs ys : List Float) → (dot xs ys ≡ refused 3) ↔ (length xs ≡ length ys → ⊥)
-demand-1-dot = leaf.dot-refused
+-- The workings without a state, a search's seven with `reduce_bench` and `eliminate_diag`, and the parts of a store, a row for each: 2 for its sizes,
+-- 3 for a slice that does not fit, each exactly when it is the first that holds, and then every lent slice is as it came; answered otherwise.
+pub demand-1-workings : Workings
+demand-1-workings = working.workings
 
-pub demand-1-axpy : (a : Float) (xs ys : List Float) → (axpy a xs ys ≡ (refused 3, ys)) ↔ (length xs ≡ length ys → ⊥)
-demand-1-axpy = leaf.axpy-refused
+pub demand-1-parts : Parts
+demand-1-parts = working.parts
 
-pub demand-1-axpy-zero : (a : Float) (xs ys : List Float) → (axpyZero a xs ys ≡ (refused 3, ys)) ↔ (length xs ≡ length ys → ⊥)
-demand-1-axpy-zero = leaf.axpy-zero-refused
+-- The tests that calls share (`permutation`, `room`, `ordered`) are never refused: their answer is the number of the first that holds, 0 for none.
+pub demand-1-tests : SharedTests
+demand-1-tests = working.shared-tests
 
-pub demand-1-copy : (xs ys : List Float) → (copy xs ys ≡ (refused 3, ys)) ↔ (length xs ≡ length ys → ⊥)
-demand-1-copy = leaf.copy-refused
+-- A sheet, as `fit` answers it (`fit-is`): refused k, from 1 to 7, exactly when k's condition is the first that holds of all its fields.
+pub demand-1-sheet-refused : (sheet : List ℕ) (step : List Float) (k : ℕ) → 0 < k → k < 8 → (replyNumber (sheetCall sheet step .reply) ≡ k) ↔ RefusedBy (sheetTests sheet (length step)) k
+demand-1-sheet-refused = sheets.refused-early
 
-pub demand-1-solve-upper : (apart n : ℕ) (r x : List Float) → (solveUpper apart n r x ≡ (refused 3, x)) ↔ leaf.Short apart n r x
-demand-1-solve-upper = leaf.solve-upper-refused
+-- Whatever number it is refused by, 8 too, the lent step is as it came.
+pub demand-1-sheet-unchanged : (sheet : List ℕ) (step : List Float) (k : ℕ) → 0 < k → replyNumber (sheetCall sheet step .reply) ≡ k → sheetCall sheet step ≡ unwritten (refused k) step
+demand-1-sheet-unchanged = sheets.refused-unwritten
+
+-- It is refused 8 exactly when no condition holds and its working is (its factoring, in call 2 its first scaling, or its search); answered otherwise.
+pub demand-1-sheet-eight : (sheet : List ℕ) (step : List Float) → (replyNumber (sheetCall sheet step .reply) ≡ 8) ↔ (NoneHold (sheetTests sheet (length step)) × (replyNumber (sheetWorking sheet step .reply) ≡ 8))
+demand-1-sheet-eight = sheets.refused-eight
+
+pub demand-1-sheet-answered : (sheet : List ℕ) (step : List Float) → (replyNumber (sheetCall sheet step .reply) ≡ 0) ↔ (NoneHold (sheetTests sheet (length step)) × (replyNumber (sheetWorking sheet step .reply) ≡ 0))
+demand-1-sheet-answered = sheets.answered-otherwise
+
+-- There is no other number, so that no sheet is refused 4 or 5.
+pub demand-1-sheet-never : (sheet : List ℕ) (step : List Float) → (let k = replyNumber (sheetCall sheet step .reply) in (k ≤ 3) ⊎ ((6 ≤ k) × (k ≤ 8)))
+demand-1-sheet-never = sheets.numbers-named
+
+-- The lines into a lent buffer (`write_lines`, `fit_lines`): refused 2 or 3, the buffer as it came, or answered.
+pub demand-1-sheet-lines : SheetLines
+demand-1-sheet-lines = sheet-lines
 
 -- ==== Demand 2. "For finite input not refused there, every answer has the bits of that Rust over the leaf rules in document 01, shown by runs
--- against it. The square root is proved against IEEE 754, norm and search against MINPACK-1."
+-- against it. The square root is proved against IEEE 754, norm and search against MINPACK-1. Where the published crate or LMPAR differs from that, it
+-- goes into docs/DIFFERENCES.md and the bits of that Rust stand; the list excuses nothing of ours."
 --
 -- The definitions evaluate; the runs against that Rust are those of `oracle/`. The code gives what they give: of the search, whatever meets its
--- contract; for the other calls and for factoring see `proofs/Ties.antt`.
+-- contract; for the other calls and for factoring see `proofs/Ties.antt`. No theorem below is excused by the list: each says itself for which inputs it is.
 pub demand-2-contract : (κs : Lfts 4) (a : ArgsD signature κs) (r : SearchTold) (s : AtExit (endedOf 4 kinds.ps kinds.r) κs) → code.Post κs a r s
-    → left (found (foundOf (r .answer))) (r .state) (now (s .1 .0)) (now (s .1 .1 .1 .1 .1 .1 .0))
+    → leftAs (found (foundOf (r .answer))) (r .state) (now (s .1 .0)) (now (s .1 .1 .1 .1 .1 .1 .0))
     ≡ perform (search (now (a .1 .1 .1 .0)) (a .1 .1 .1 .1 .0) (a .1 .1 .1 .1 .1 .0) (now (a .1 .1 .1 .1 .1 .1 .0))) (a .0) (now (a .1 .1 .0)) (now (a .1 .0))
 demand-2-contract = determine-lambda-and-parameter-update-is
 
@@ -170,20 +203,22 @@ demand-2-root-alone = sqrt-unique
 pub demand-2-norm : (unset : Float) (xs : List Float) → NoNan xs → norm xs ≡ minpackEnorm unset xs
 demand-2-norm = norm-is-enorm
 
--- The search is MINPACK-1's LMPAR, with document 01's dwarf: where m ≥ n, a search that answers has LMPAR's x and par, and as many trials as LMPAR
--- has calls of QRSOLV. Straight after a factoring it is so for m < n too.
-pub demand-2-search : (st : State) (order : List ℕ) (diag : List Float) (radius lambda : Float) (store out : List Float) (a : LMParameter)
+-- The search is MINPACK-1's LMPAR, with that ENORM and document 01's dwarf: where m ≥ n, a search that answers has LMPAR's x and par, and as many trials
+-- as LMPAR has calls of QRSOLV.
+pub demand-2-search : (unset : Float) (st : State) (order : List ℕ) (diag : List Float) (radius lambda : Float) (store out : List Float) (a : LMParameter)
     → searchCall st order diag radius lambda store out .reply ≡ answered a → st .n ≤ st .m
-    → lmpar dwarf (lentOf st order diag radius store) lambda
+    → lmpar (minpackEnorm unset) dwarf (lentOf st order diag radius store) lambda
     ≡ record { x = take (st .n) (searchCall st order diag radius lambda store out .out); par = a .lambda; qrsolvs = a .trials }
 demand-2-search = search-answers-as-lmpar
 
+-- After a factoring it is so for m < n too, straight after it or after any calls since.
 pub demand-2-search-factored : (m n : ℕ) (jacobian residuals store : List Float) (order : List ℕ) (bench : List Float)
-    → (let f = factorCall m n jacobian residuals store order bench in f .reply ≡ answered tt
-    → (diag : List Float) (radius lambda : Float) (out : List Float) (a : LMParameter)
-    → searchCall (f .state) (f .order) diag radius lambda (f .store) out .reply ≡ answered a
-    → lmpar dwarf (lentOf (f .state) (f .order) diag radius (f .store)) lambda
-    ≡ record { x = take (f .state .n) (searchCall (f .state) (f .order) diag radius lambda (f .store) out .out); par = a .lambda; qrsolvs = a .trials })
+    → (let f = factorCall m n jacobian residuals store order bench in f .reply ≡ answered tt → (cs : List Call)
+    → (let x = run perform (f .order) cs (f .state) (f .store) in
+    (unset : Float) (diag : List Float) (radius lambda : Float) (out : List Float) (a : LMParameter)
+    → searchCall (x .0) (f .order) diag radius lambda (x .1) out .reply ≡ answered a
+    → lmpar (minpackEnorm unset) dwarf (lentOf (x .0) (f .order) diag radius (x .1)) lambda
+    ≡ record { x = take (x .0 .n) (searchCall (x .0) (f .order) diag radius lambda (x .1) out .out); par = a .lambda; qrsolvs = a .trials }))
 demand-2-search-factored = factored-answers-as-lmpar
 
 -- ==== Demand 3. "Factor once, lend the same store and order list each time, pass each returned state on, and let nobody else write those two."
@@ -207,7 +242,7 @@ pub demand-3-as-fresh : (m n : ℕ) (jacobian residuals store store′ : List Fl
 demand-3-as-fresh = as-fresh
 
 -- The same in any two stores that hold the same R, qt_b, norms, lower part and l_diag, whatever is in work and surplus: those of two factorings do.
-pub demand-3-any-store : (order : List ℕ) (st : State) (store store′ : List Float) → isEmpty (st .held) ≡ false → AsFactored st store store′ → (cs : List Call) (c : Call)
+pub demand-3-any-store : (order : List ℕ) (st : State) (store store′ : List Float) → isEmpty (st .held) ≡ false → SameContents st store store′ → (cs : List Call) (c : Call)
     → (let x = run perform order cs st store in
     let y = run perform order (latest perform order settling [] cs st store) st store′ in
     ToldAlike (perform c (x .0) order (x .1)) (perform c (y .0) order (y .1)))
@@ -234,10 +269,6 @@ module _ (st : State) (order : List ℕ) (diag : List Float) (radius lambda : Fl
   abbrev overshoot : Float
   overshoot = sub binary64 (scaledNorm asked (undampedStep asked)) radius
 
-  -- the step that is written
-  abbrev step : List Float
-  step = take (st .n) (searchCall st order diag radius lambda store out .out)
-
   -- "An answered search gives lambda zero exactly when the computed undamped scaled norm less the radius is at most the computed tenth of the radius."
   pub demand-3-lambda : (a .lambda ≡ plusZero) ↔ (le overshoot (band radius) ≡ true)
   demand-3-lambda = told.lambda-rule st order diag radius lambda store out a h
@@ -249,29 +280,14 @@ module _ (st : State) (order : List ℕ) (diag : List Float) (radius lambda : Fl
       × ((1 ≤ a .trials) × ((a .trials ≤ 10) × (a .trials < 10 → (ending (runOf asked lambda) ≡ inl within) ⊎ (ending (runOf asked lambda) ≡ inl falling))))
   demand-3-trials = told.trial-rule st order diag radius lambda store out a h
 
+  -- "The last cannot apply at t = 1": `falling` takes two trials at least.
+  pub demand-3-falling : ending (runOf asked lambda) ≡ inl falling → 2 ≤ a .trials
+  demand-3-falling = told.falling-later st order diag radius lambda store out a h
+
   -- A run that began its trials stops by one of these rules only where it holds, of the numbers of its trials.
   pub demand-3-stop-rules : le overshoot (band radius) ≡ false → RuledFrom asked overshoot (runOf asked lambda)
   demand-3-stop-rules = rules-hold asked lambda
 
-  -- ==== What a technician wants to hear of an answered search
-
-  -- every number of the step is finite, and nothing else of the output is written
-  pub answered-step : (allFinite step ≡ true) × (drop (st .n) (searchCall st order diag radius lambda store out .out) ≡ drop (st .n) out)
-  answered-step = (told.step-finite st order diag radius lambda store out a h, told.surplus-kept st order diag radius lambda store out a h)
-
-  -- lambda is finite and not below zero, and there are at most ten trials, none where lambda is zero
-  pub answered-lambda : (isFinite (a .lambda) ≡ true) × (lt (a .lambda) plusZero ≡ false)
-  answered-lambda = (told.lambda-finite st order diag radius lambda store out a h, told.lambda-not-below st order diag radius lambda store out a h)
-
-  pub answered-trials : (a .trials ≤ 10) × (le overshoot (band radius) ≡ true → a .trials ≡ 0)
-  answered-trials = (told.trials-few st order diag radius lambda store out a h, told.no-trial st order diag radius lambda store out a h)
-
-  -- the norm is finite, and is the norm of scaling times step; stopped `within`, it is within a tenth of the radius of it
-  pub answered-norm : (isFinite (a .«dp_norm») ≡ true) × (a .«dp_norm» ≡ norm (productAll step (take (st .n) diag)))
-  answered-norm = (told.norm-finite st order diag radius lambda store out a h, told.norm-of-step st order diag radius lambda store out a h)
-
-  pub answered-within : ending (runOf asked lambda) ≡ inl within → le (absOf (sub binary64 (a .«dp_norm») radius)) (band radius) ≡ true
-  answered-within = told.within-band st order diag radius lambda store out a h
-
+-- What a technician wants to hear of an answered search: `proofs/AnsweredSearch.antt`.
 -- Closed witnesses, computed: `proofs/Witnesses.antt` (document 01's F, G and K, each stop rule, each place of refusal 8) and
 -- `proofs/CallWitnesses.antt` (each refusal number of the search; 0, 1 and 10 trials; a zero solve, a damped solve refused 8, a held call answered 5).

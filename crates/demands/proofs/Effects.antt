@@ -2,8 +2,8 @@
 -- cite. Assumes nothing.
 use mathlib.Core.Path.{_≡_, refl}
 use mathlib.Core.Bool.{Bool, true, false}
-use mathlib.Core.List.{List, [], _∷_, _++_}
-use Prim.Native.Nat.{ℕ, min}
+use mathlib.Core.List.{List, []}
+use Prim.Native.Nat.{ℕ}
 use lib.Dec.{eqb}
 use lib.ListN.{length, take}
 use lib.Ieee.{Float}
@@ -11,94 +11,34 @@ use Rattle.leaves.specs.Reply.{answered, refused}
 use Rattle.factor.specs.State.{withHeld}
 use Rattle.factor.specs.Room.{Room, load, lay, leaving}
 use Rattle.leaves.specs.Square.{zeros, cleared}
-use Rattle.leaves.specs.Tests.{Test, firstOf, allFinite}
-use Rattle.factor.specs.Tests.{roomTests, orderTest, heldTest, finiteTest, finiteNumber, notAbove}
-use Rattle.factor.specs.Solve.{zeroSolved, scatter, gather, nonSingular}
+use Rattle.leaves.specs.Tests.{firstOf, allFinite}
+use Rattle.factor.specs.Solve.{scatter, gather, nonSingular}
 use Rattle.measures.specs.Determined.{determinedOf}
-use Rattle.eliminate.specs.Eliminate.{Rows, damping, heads, tails}
+use Rattle.eliminate.specs.Eliminate.{Rows, heads, tails}
 use Rattle.factor.specs.Held.{heldSolved, heldProduct}
 use Rattle.measures.specs.Gradient.{gradient as measure, jxNorm}
 use Rattle.factor.specs.Outcome.{written}
-use Rattle.factor.specs.Solves.{dampedRoom, dampedStep, zeroCall, dampedCall}
+use Rattle.factor.specs.Solves.{dampedRoom, dampedNumbers, zeroCall, dampedCall}
 use Rattle.measures.specs.Measures.{finiteOr8, gradientCall, jxCall, determinedCall, nonSingularCall}
 use Rattle.factor.specs.HeldCalls.{solveCall, mulCall}
 use Rattle.measures.specs.Rescale.{scalingTests, rescaled, scalingCall}
-use Rattle.demands.specs.Calls.{Answer, done, number, count, truth, scaled, Outcome, outcome, Call, zero-solve, damped-solve, held-solve, held-product, gradient, jx-norm, scaling, determined, non-singular, ofEnded, ofTold, perform}
+use Rattle.demands.specs.Calls.{StoreAnswer, done, number, count, truth, scaled, StoreOutcome, storeOutcome, StoreCall, zero-solve, damped-solve, held-solve, held-product, gradient, jx-norm, scaling, determined, non-singular, ofEnded, ofTold, performStore}
 use Rattle.factor.specs.declared.state.Held.{Held}
 use Rattle.factor.specs.declared.state.Held.the-variants as held
 use Rattle.factor.specs.declared.state.State.{State}
 use Rattle.measures.specs.declared.scaling.Mode.the-variants as mode
-
--- the shortest of the slices that a call lends with a number for each column
-unfoldable pub shortestOf : Call → State → List ℕ → ℕ
-shortestOf (zero-solve out) st order = min (length order) (length out)
-shortestOf (damped-solve diag out) st order = min (length order) (min (length diag) (length out))
-shortestOf (held-solve rhs out) st order = min (length order) (min (length rhs) (length out))
-shortestOf (held-product out) st order = length out
-shortestOf (gradient bnorm) st order = length order
-shortestOf (jx-norm x) st order = min (length order) (length x)
-shortestOf (scaling mode.FirstScaled diag x bound) st order = min (length diag) (length x)
-shortestOf (scaling mode.FirstUnscaled diag x bound) st order = min (length diag) (length x)
-shortestOf (scaling mode.LaterScaled diag x bound) st order = length diag
-shortestOf (scaling mode.LaterUnscaled diag x bound) st order = length diag
-shortestOf determined st order = st .n
-shortestOf non-singular st order = st .n
-
--- what a call tests after emptiness, sizes and lengths
-unfoldable pub furtherOf : Call → State → List ℕ → List Test
-furtherOf (zero-solve out) st order = orderTest st order ∷ []
-furtherOf (damped-solve diag out) st order = orderTest st order ∷ finiteTest st diag ∷ []
-furtherOf (held-solve rhs out) st order = orderTest st order ∷ heldTest st ∷ finiteTest st rhs ∷ []
-furtherOf (held-product out) st order = heldTest st ∷ []
-furtherOf (gradient bnorm) st order = orderTest st order ∷ finiteNumber bnorm ∷ (notAbove bnorm, 7) ∷ []
-furtherOf (jx-norm x) st order = orderTest st order ∷ finiteTest st x ∷ []
-furtherOf (scaling mode.FirstScaled diag x bound) st order = finiteTest st x ∷ finiteNumber bound ∷ (notAbove bound, 7) ∷ []
-furtherOf (scaling mode.FirstUnscaled diag x bound) st order = finiteTest st x ∷ finiteNumber bound ∷ (notAbove bound, 7) ∷ []
-furtherOf (scaling mode.LaterScaled diag x bound) st order = finiteTest st diag ∷ []
-furtherOf (scaling mode.LaterUnscaled diag x bound) st order = []
-furtherOf determined st order = []
-furtherOf non-singular st order = []
-
--- a call's tests, by the store's length and the order list
-abbrev pub testsOf : Call → State → ℕ → List ℕ → List Test
-testsOf c st store order = roomTests st store (shortestOf c st order) ++ furtherOf c st order
-
--- a refusal in a call's own kind of answer, and the output that it lends
-abbrev pub refusedAs : Call → ℕ → Answer
-refusedAs (zero-solve out) k = done (refused k)
-refusedAs (damped-solve diag out) k = done (refused k)
-refusedAs (held-solve rhs out) k = done (refused k)
-refusedAs (held-product out) k = done (refused k)
-refusedAs (gradient bnorm) k = number (refused k)
-refusedAs (jx-norm x) k = number (refused k)
-refusedAs (scaling md diag x bound) k = scaled (refused k)
-refusedAs determined k = count (refused k)
-refusedAs non-singular k = truth (refused k)
-
-abbrev pub lentOut : Call → List Float
-lentOut (zero-solve out) = out
-lentOut (damped-solve diag out) = out
-lentOut (held-solve rhs out) = out
-lentOut (held-product out) = out
-lentOut (gradient bnorm) = []
-lentOut (jx-norm x) = []
-lentOut (scaling md diag x bound) = diag
-lentOut determined = []
-lentOut non-singular = []
-
--- state, store and output as they came
-abbrev pub refusal : Call → ℕ → State → List Float → Outcome
-refusal c k st s = outcome (refusedAs c k) st s (lentOut c)
+use Rattle.demands.specs.Refusals.{shortestOf, furtherOf, storeTests, storeRefusal}
+use Rattle.demands.specs.Eight.{zeroX, dampedL}
 
 -- what a call that passed its tests does: work is +0 after each, and the rest of the room stays
 pub record Effect : Type 0 where
-  pub answer : Answer
+  pub answer : StoreAnswer
   pub held : Held
   pub below : List (List Float)
   pub ldiag : List Float
   pub out : List Float
 
-abbrev pub effectOf : Answer → Held → List (List Float) → List Float → List Float → Effect
+abbrev pub effectOf : StoreAnswer → Held → List (List Float) → List Float → List Float → Effect
 effectOf a h b l o = record { answer = a; held = h; below = b; ldiag = l; out = o }
 
 -- a solve with an answer, and one that is refused 8
@@ -109,7 +49,7 @@ abbrev pub broken : Room → List Float → Effect
 broken r o = effectOf (done (refused 8)) held.Nothing (cleared (r .below)) (zeros (length (r .ldiag))) o
 
 -- a call that changes nothing but work
-abbrev pub resting : Answer → State → Room → List Float → Effect
+abbrev pub resting : StoreAnswer → State → Room → List Float → Effect
 resting a st r o = effectOf a (st .held) (r .below) (r .ldiag) o
 
 -- 8 where a number of x is not finite
@@ -119,23 +59,17 @@ finiteOr x e f = elim (allFinite x) [ true ↦ e | false ↦ f ]
 abbrev pub restingIf : State → Room → List Float → List Float → Effect
 restingIf st r x out = finiteOr x (resting (done (answered tt)) st r (written x out)) (resting (done (refused 8)) st r out)
 
-abbrev pub zeroX : State → Room → List Float
-zeroX st r = zeroSolved (st .m) (r .upper) (r .qtb)
-
-abbrev pub dampedL : State → List ℕ → List Float → Room → Rows
-dampedL st order diag r = damping (gather (take (st .n) order) diag) (r .upper) (r .qtb)
-
 abbrev pub zeroEffect : State → List ℕ → Room → List Float → Effect
 zeroEffect st order r out = solved held.Zero (cleared (r .below)) (zeros (length (r .ldiag))) (scatter (take (st .n) order) (zeroX st r) out)
 
 abbrev pub dampedEffect : State → List ℕ → Rows → List Float → Effect
-dampedEffect st order l out = solved held.Damped (tails (l .0)) (heads (l .0)) (scatter (take (st .n) order) (dampedStep l) out)
+dampedEffect st order l out = solved held.Damped (tails (l .0)) (heads (l .0)) (scatter (take (st .n) order) (dampedNumbers l) out)
 
-unfoldable pub effect : Call → State → List ℕ → Room → Effect
+unfoldable pub effect : StoreCall → State → List ℕ → Room → Effect
 effect (zero-solve out) st order r = finiteOr (zeroX st r) (zeroEffect st order r out) (broken r out)
 effect (damped-solve diag out) st order r =
     let l = dampedL st order diag r in
-    finiteOr (dampedStep l) (dampedEffect st order l out) (broken r out)
+    finiteOr (dampedNumbers l) (dampedEffect st order l out) (broken r out)
 effect (held-solve rhs out) st order r = restingIf st r (heldSolved (st .held) (gather (take (st .n) order) rhs) r) out
 effect (held-product out) st order r = restingIf st r (heldProduct (st .held) r) out
 effect (gradient bnorm) st order r = resting (number (measure (gather (take (st .n) order) (r .norms)) bnorm (r .upper) (r .qtb))) st r []
@@ -146,12 +80,12 @@ effect (scaling md diag x bound) st order r =
 effect determined st order r = resting (count (answered (determinedOf (st .m) (r .upper)))) st r []
 effect non-singular st order r = resting (truth (answered (nonSingular (st .m) (st .n) (r .upper)))) st r []
 
-abbrev pub effected : State → List Float → Effect → Outcome
-effected st s e = outcome (e .answer) (withHeld st (e .held)) (lay (leaving (e .below) (e .ldiag) (load (st .n) s))) (e .out)
+abbrev pub effected : State → List Float → Effect → StoreOutcome
+effected st s e = storeOutcome (e .answer) (withHeld st (e .held)) (lay (leaving (e .below) (e .ldiag) (load (st .n) s))) (e .out)
 
 -- the number that a call is refused by before it looks at the room, 0 for none
-abbrev pub testedOf : Call → State → List ℕ → List Float → ℕ
-testedOf c st order s = firstOf (testsOf c st (length s) order)
+abbrev pub testedOf : StoreCall → State → List ℕ → List Float → ℕ
+testedOf c st order s = firstOf (storeTests c st (length s) order)
 
 -- ---- one choice under two readings
 chosen : {A B C : Type 0} (f : A → C) (g : B → C) (b : Bool) {x y : A} {u v : B} → f x ≡ g u → f y ≡ g v
@@ -159,20 +93,20 @@ chosen : {A B C : Type 0} (f : A → C) (g : B → C) (b : Bool) {x y : A} {u v 
 chosen f g true p q = p
 chosen f g false p q = q
 
-by-tests : {A : Type 0} (f : A → Outcome) (b : Bool) {x y : A} {u v : Outcome} → f x ≡ u → f y ≡ v
+by-tests : {A : Type 0} (f : A → StoreOutcome) (b : Bool) {x y : A} {u v : StoreOutcome} → f x ≡ u → f y ≡ v
     → f (elim b [ true ↦ x | false ↦ y ]) ≡ elim b [ true ↦ u | false ↦ v ]
 by-tests f true p q = p
 by-tests f false p q = q
 
 -- LAW: a call is refused by its tests, everything as it came, or has its effect.
-pub perform-is : (c : Call) (st : State) (order : List ℕ) (s : List Float)
-    → perform c st order s ≡ elim (eqb (testedOf c st order s) 0) [
+pub perform-is : (c : StoreCall) (st : State) (order : List ℕ) (s : List Float)
+    → performStore c st order s ≡ elim (eqb (testedOf c st order s) 0) [
       | true ↦ effected st s (effect c st order (load (st .n) s))
-      | false ↦ refusal c (testedOf c st order s) st s
+      | false ↦ storeRefusal c (testedOf c st order s) st s
     ]
-unfolding perform shortestOf furtherOf effect finiteOr zeroCall dampedRoom dampedCall solveCall mulCall gradientCall jxCall determinedCall nonSingularCall scalingTests scalingCall
+unfolding performStore shortestOf furtherOf effect finiteOr zeroCall dampedRoom dampedCall solveCall mulCall gradientCall jxCall determinedCall nonSingularCall scalingTests scalingCall
 perform-is (zero-solve out) st order s = by-tests (ofEnded done) (eqb (testedOf (zero-solve out) st order s) 0) (chosen (ofEnded done) (effected st s) (allFinite (zeroX st (load (st .n) s))) refl refl) refl
-perform-is (damped-solve diag out) st order s = by-tests (ofEnded done) (eqb (testedOf (damped-solve diag out) st order s) 0) (chosen (ofEnded done) (effected st s) (allFinite (dampedStep (dampedL st order diag (load (st .n) s)))) refl refl) refl
+perform-is (damped-solve diag out) st order s = by-tests (ofEnded done) (eqb (testedOf (damped-solve diag out) st order s) 0) (chosen (ofEnded done) (effected st s) (allFinite (dampedNumbers (dampedL st order diag (load (st .n) s)))) refl refl) refl
 perform-is (held-solve rhs out) st order s = by-tests (ofEnded done) (eqb (testedOf (held-solve rhs out) st order s) 0) (chosen (ofEnded done) (effected st s) (allFinite (heldSolved (st .held) (gather (take (st .n) order) rhs) (load (st .n) s))) refl refl) refl
 perform-is (held-product out) st order s = by-tests (ofEnded done) (eqb (testedOf (held-product out) st order s) 0) (chosen (ofEnded done) (effected st s) (allFinite (heldProduct (st .held) (load (st .n) s))) refl refl) refl
 perform-is (gradient bnorm) st order s = by-tests (ofTold number) (eqb (testedOf (gradient bnorm) st order s) 0) refl refl

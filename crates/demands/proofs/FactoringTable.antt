@@ -3,29 +3,24 @@
 -- finite, and what is then in the lent slices; answered otherwise. A refused factoring hands back the empty state. Assumes nothing.
 use mathlib.Core.Path.{_≡_, refl, sym, ap, _∙_}
 use mathlib.Core.Bool.{Bool, true, false}
-use mathlib.Core.List.{List, _++_, map}
+use mathlib.Core.List.{List}
 use mathlib.Core.Logic.{_↔_}
 use Prim.Native.Nat.{ℕ, _<_}
 use native.Mathlib.Omega.{arith}
 use lib.Dec.{eqb}
-use lib.ListN.{length, take, drop}
+use lib.ListN.{length}
 use lib.Ieee.{Float}
 use borrow.Author.Tests.{eqb-true, eqb-false}
-use Rattle.leaves.specs.Reply.{answered, refused}
-use Rattle.leaves.specs.Norm.{norm}
-use Rattle.leaves.specs.Triangle.{columns}
-use Rattle.leaves.specs.Loop.{countFrom}
-use Rattle.factor.specs.State.{empty, storeNeed, benchNeed}
-use Rattle.factor.specs.Room.{Room, lay}
-use Rattle.leaves.specs.Square.{zeros}
-use Rattle.reduce.specs.Reduction.{Reduction, reduction-of}
+use Rattle.leaves.specs.Reply.{refused}
+use Rattle.factor.specs.State.{empty}
+use Rattle.factor.specs.Room.{Room}
 use Rattle.leaves.specs.Tests.{Test, firstOf}
-use Rattle.factor.specs.Factoring.{Factored, factored, factorTests, factoredRoom, finiteRoom, factorWorked, factorCall}
-use Rattle.factor.specs.Outcome.{written}
+use Rattle.factor.specs.Factoring.{Factored, factored, factorTests, finiteRoom, factorWorked, factorCall}
 use Rattle.demands.specs.Calls.{replyNumber}
-use Rattle.factor.specs.declared.state.Held.the-variants as held
-use Rattle.leaves.proofs.Refusals.{NoneHold, RefusedBy, refused-iff, passed-iff, call-refused, call-worked}
+use Rattle.leaves.proofs.Refusals.{refused-iff, passed-iff, call-refused, call-worked}
 use Rattle.demands.proofs.SearchTable.{first-small}
+use Rattle.leaves.specs.Refusing.{NoneHold, RefusedBy}
+use Rattle.demands.specs.Factorings.{roomMade, factoringStands, factoringBreaks}
 
 module _ (m n : ℕ) (jacobian residuals store : List Float) (order : List ℕ) (bench : List Float) where
   abbrev pub tests : List Test
@@ -37,18 +32,14 @@ module _ (m n : ℕ) (jacobian residuals store : List Float) (order : List ℕ) 
   abbrev pub given : ℕ
   given = replyNumber (call .reply)
 
-  abbrev pub made : Reduction
-  made = reduction-of m n (columns m n jacobian) (take m residuals)
-
   abbrev pub room : Room
-  room = factoredRoom m n (map norm (columns m n jacobian)) made (drop (storeNeed n) store)
+  room = roomMade m n jacobian residuals store
 
-  -- the bench is +0 after both
   abbrev pub stands : Factored
-  stands = factored (answered tt) (record { m = m; n = n; held = held.Nothing }) (lay room) (made .order ++ drop n order) (written (zeros (benchNeed m n)) bench)
+  stands = factoringStands m n jacobian residuals store order bench
 
   abbrev pub breaks : Factored
-  breaks = factored (refused 8) empty (written (zeros (storeNeed n)) store) (countFrom n 0 ++ drop n order) (written (zeros (benchNeed m n)) bench)
+  breaks = factoringBreaks m n store order bench
 
   worked-stands : finiteRoom room ≡ true → factorWorked m n jacobian residuals store order bench ≡ stands
   unfolding factorWorked

@@ -10,8 +10,8 @@ use Rattle.factor.specs.State.{isEmpty, storeNeed, withHeld}
 use Rattle.factor.specs.Room.{Room, load}
 use Rattle.demands.specs.Calls.{OutcomeOf, run, latest}
 use Rattle.factor.specs.declared.state.State.{State}
-use Rattle.demands.proofs.Reading.{Alike, HeldAlike}
-use Rattle.demands.proofs.Keeping.{Kept, ToldAlike, Long, LawsOf}
+use Rattle.demands.proofs.Keeping.{LawsOf}
+use Rattle.demands.specs.Alike.{Alike, HeldAlike, Kept, ToldAlike, Long}
 
 -- ---- rooms
 kept-after : {r t u : Room} → Kept r t → Kept t u → Kept r u
@@ -44,6 +44,11 @@ module _ {C A : Type 0} (f : C → State → List ℕ → List Float → Outcome
   unfolding run
   run-size [] st s = refl
   run-size (c ∷ cs) st s = run-size cs (f c st order s .state) (f c st order s .store) ∙ ap (λ (x : State). x .n) (every c .sizes st order s)
+
+  pub run-rows : (cs : List C) (st : State) (s : List Float) → run f order cs st s .0 .m ≡ st .m
+  unfolding run
+  run-rows [] st s = refl
+  run-rows (c ∷ cs) st s = run-rows cs (f c st order s .state) (f c st order s .store) ∙ ap (λ (x : State). x .m) (every c .sizes st order s)
 
   -- ---- keeps, of a run
   pub run-keeps : (cs : List C) (st : State) (s : List Float) → Kept (load (st .n) s) (load (st .n) (run f order cs st s .1))

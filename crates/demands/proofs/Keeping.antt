@@ -8,31 +8,22 @@ use lib.Dec.{eqb}
 use lib.ListN.{length, take, drop, length-take, length-drop}
 use lib.Ieee.{Float}
 use borrow.Author.Tests.{eqb-true, eq-eqb}
-use Rattle.factor.specs.State.{isEmpty, storeNeed, withHeld}
-use Rattle.factor.specs.Room.{Room, Shaped, part, load, leaving}
+use Rattle.factor.specs.State.{isEmpty, withHeld}
+use Rattle.factor.specs.Room.{Room, part, load, leaving}
 use Rattle.leaves.specs.Square.{zeros}
 use Rattle.leaves.specs.Tests.{firstOf}
-use Rattle.demands.specs.Calls.{OutcomeOf, Outcome, Call, zero-solve, damped-solve, held-solve, held-product, gradient, jx-norm, scaling, determined, non-singular, perform, isSolve, isHeld}
+use Rattle.demands.specs.Calls.{OutcomeOf, StoreOutcome, StoreCall, zero-solve, damped-solve, held-solve, held-product, gradient, jx-norm, scaling, determined, non-singular, performStore, isStoreSolve}
 use Rattle.factor.specs.declared.state.Held.{Held}
 use Rattle.factor.specs.declared.state.State.{State}
 use Rattle.factor.proofs.Layouts.{load-shaped}
-use Rattle.demands.proofs.Effects.{Effect, shortestOf, furtherOf, effect, effected, refusal, refusedAs, testedOf}
+use Rattle.demands.proofs.Effects.{Effect, effect, effected, testedOf}
 use Rattle.demands.proofs.Leavings.{room-tested, room-sized, tests-long, passed-is, refused-is, performed, effect-shaped, room-after}
 use Rattle.demands.proofs.Surplus.{order-surplus}
-use Rattle.demands.proofs.Reading.{Alike, HeldAlike, effect-reads, effect-settles, effect-rests}
-
--- R with its diagonal, qt_b, norms and surplus are the same
-pub record Kept (r t : Room) : Type 0 where
-  pub upper : t .upper ≡ r .upper
-  pub qtb : t .qtb ≡ r .qtb
-  pub norms : t .norms ≡ r .norms
-  pub rest : t .rest ≡ r .rest
-
--- whatever else is in the stores, the caller is told the same
-pub record ToldAlike {A : Type 0} (o p : OutcomeOf A) : Type 0 where
-  pub answer : o .answer ≡ p .answer
-  pub state : o .state ≡ p .state
-  pub out : o .out ≡ p .out
+use Rattle.demands.proofs.Reading.{effect-reads, effect-settles, effect-rests}
+use Rattle.factor.specs.inner.Rooms.{Shaped}
+use Rattle.demands.specs.inner.Helds.{isStoreHeld}
+use Rattle.demands.specs.Refusals.{shortestOf, furtherOf, storeRefusal, refusedAs}
+use Rattle.demands.specs.Alike.{Alike, HeldAlike, Kept, ToldAlike, Long}
 
 -- two rooms in which the same is left for the held calls, and in work
 pub record Settled (r t : Room) : Type 0 where
@@ -47,11 +38,8 @@ pub record Unsettled (st : State) (r : Room) (after : State) (t : Room) : Type 0
   pub ldiag : t .ldiag ≡ r .ldiag
 
 -- a solve that passed its tests, refused 8 or not
-abbrev pub settling : Call → State → List ℕ → List Float → Bool
-settling c st order s = isSolve c && eqb (testedOf c st order s) 0
-
-abbrev pub Long : State → List Float → Type 0
-Long st s = storeNeed (st .n) ≤ length s
+abbrev pub settling : StoreCall → State → List ℕ → List Float → Bool
+settling c st order s = isStoreSolve c && eqb (testedOf c st order s) 0
 
 -- the laws of one call, of any type of calls: whether it is a held call, and when it settles
 pub record LawsOf {A : Type 0} (f : State → List ℕ → List Float → OutcomeOf A) (held : Bool) (settles-by : State → List ℕ → List Float → Bool) : Type 0 where
@@ -71,16 +59,16 @@ pub record LawsOf {A : Type 0} (f : State → List ℕ → List Float → Outcom
   -- of the order list the first n alone are read
   pub orders : (st : State) (o p : List ℕ) (s : List Float) → st .n ≤ length o → st .n ≤ length p → take (st .n) o ≡ take (st .n) p → f st o s ≡ f st p s
 
-abbrev pub Laws : Call → Type 0
-Laws c = LawsOf (perform c) (isHeld c) (settling c)
+abbrev pub Laws : StoreCall → Type 0
+Laws c = LawsOf (performStore c) (isStoreHeld c) (settling c)
 
 -- ---- keeps
 leaving-kept : (b : List (List Float)) (l : List Float) (r : Room) → Kept r (leaving b l r)
 unfolding leaving
 leaving-kept b l r = record { upper = refl; qtb = refl; norms = refl; rest = refl }
 
-call-keeps : (c : Call) (st : State) (order : List ℕ) (s : List Float) → Kept (load (st .n) s) (load (st .n) (perform c st order s .store))
-call-keeps c st order s = performed c st order s (λ (o : Outcome). Kept (load (st .n) s) (load (st .n) (o .store)))
+call-keeps : (c : StoreCall) (st : State) (order : List ℕ) (s : List Float) → Kept (load (st .n) s) (load (st .n) (performStore c st order s .store))
+call-keeps c st order s = performed c st order s (λ (o : StoreOutcome). Kept (load (st .n) s) (load (st .n) (o .store)))
     (λ e. subst (λ (x : Room). Kept (load (st .n) s) x) (sym (room-after c st order s (room-sized c st order s e))) (leaving-kept _ _ (load (st .n) s)))
     (λ h. record { upper = refl; qtb = refl; norms = refl; rest = refl })
 
@@ -103,8 +91,8 @@ same-length n s t p q e =
 work-left : (n : ℕ) (b : List (List Float)) (l : List Float) (r : Room) (x : Room) → x ≡ leaving b l r → Shaped n (leaving b l r) → length (x .work) ≡ n
 work-left n b l r x e z = ap (λ (y : Room). length (y .work)) e ∙ z .work-long
 
-call-lasts : (c : Call) (st : State) (order : List ℕ) (s : List Float) → length (perform c st order s .store) ≡ length s
-call-lasts c st order s = performed c st order s (λ (o : Outcome). length (o .store) ≡ length s)
+call-lasts : (c : StoreCall) (st : State) (order : List ℕ) (s : List Float) → length (performStore c st order s .store) ≡ length s
+call-lasts c st order s = performed c st order s (λ (o : StoreOutcome). length (o .store) ≡ length s)
     (λ e.
     let z = room-sized c st order s e in
     let r = load (st .n) s in
@@ -117,22 +105,22 @@ call-lasts c st order s = performed c st order s (λ (o : Outcome). length (o .s
     (ap (λ (x : Room). x .rest) a ∙ leaving-kept (f .below) (f .ldiag) r .rest))
     (λ h. refl)
 
-call-sizes : (c : Call) (st : State) (order : List ℕ) (s : List Float) → perform c st order s .state ≡ withHeld st (perform c st order s .state .held)
-call-sizes c st order s = performed c st order s (λ (o : Outcome). o .state ≡ withHeld st (o .state .held)) (λ e. refl) (λ h. refl)
+call-sizes : (c : StoreCall) (st : State) (order : List ℕ) (s : List Float) → performStore c st order s .state ≡ withHeld st (performStore c st order s .state .held)
+call-sizes c st order s = performed c st order s (λ (o : StoreOutcome). o .state ≡ withHeld st (o .state .held)) (λ e. refl) (λ h. refl)
 
 -- ---- reads
-module _ (c : Call) (st : State) (order : List ℕ) (s t : List Float) (p : Long st s) (q : Long st t) where
+module _ (c : StoreCall) (st : State) (order : List ℕ) (s t : List Float) (p : Long st s) (q : Long st t) where
   tested-same : testedOf c st order s ≡ testedOf c st order t
   tested-same = ap firstOf (tests-long c st order (length s) (length t) p q)
 
-  call-reads : Alike (load (st .n) s) (load (st .n) t) → (isHeld c ≡ true → HeldAlike (load (st .n) s) (load (st .n) t))
-      → ToldAlike (perform c st order s) (perform c st order t)
-  call-reads a g = performed c st order s (λ (o : Outcome). ToldAlike o (perform c st order t))
+  call-reads : Alike (load (st .n) s) (load (st .n) t) → (isStoreHeld c ≡ true → HeldAlike (load (st .n) s) (load (st .n) t))
+      → ToldAlike (performStore c st order s) (performStore c st order t)
+  call-reads a g = performed c st order s (λ (o : StoreOutcome). ToldAlike o (performStore c st order t))
       (λ e.
       let same = effect-reads st order (load (st .n) s) (load (st .n) t) a c g in
-      subst (λ (o : Outcome). ToldAlike (effected st s (effect c st order (load (st .n) s))) o) (sym (passed-is c st order t (sym tested-same ∙ e)))
+      subst (λ (o : StoreOutcome). ToldAlike (effected st s (effect c st order (load (st .n) s))) o) (sym (passed-is c st order t (sym tested-same ∙ e)))
       (record { answer = same .answer; state = ap (λ (h : Held). withHeld st h) (same .held); out = same .out }))
-      (λ h. subst (λ (o : Outcome). ToldAlike (refusal c (testedOf c st order s) st s) o) (sym (refused-is c st order t (λ e. h (tested-same ∙ e))))
+      (λ h. subst (λ (o : StoreOutcome). ToldAlike (storeRefusal c (testedOf c st order s) st s) o) (sym (refused-is c st order t (λ e. h (tested-same ∙ e))))
       (record { answer = ap (λ (k : ℕ). refusedAs c k) tested-same; state = refl; out = refl }))
 
   -- ---- settles
@@ -146,9 +134,9 @@ module _ (c : Call) (st : State) (order : List ℕ) (s t : List Float) (p : Long
   }
 
   call-settles : Alike (load (st .n) s) (load (st .n) t) → settling c st order s ≡ true
-      → Settled (load (st .n) (perform c st order s .store)) (load (st .n) (perform c st order t .store))
+      → Settled (load (st .n) (performStore c st order s .store)) (load (st .n) (performStore c st order t .store))
   call-settles a h =
-      let both = and-eq-true-iff (isSolve c) (eqb (testedOf c st order s) 0) .0 h in
+      let both = and-eq-true-iff (isStoreSolve c) (eqb (testedOf c st order s) 0) .0 h in
       let e = eqb-true (testedOf c st order s) 0 (both .1) in
       let f = sym tested-same ∙ e in
       let z = room-sized c st order s e in
@@ -157,8 +145,8 @@ module _ (c : Call) (st : State) (order : List ℕ) (s t : List Float) (p : Long
       let ys = load-shaped (st .n) t y in
       let same = effect-settles st order (load (st .n) s) (load (st .n) t) a zs ys c (both .0) in
       left-same _ _ _ _ (load (st .n) s) (load (st .n) t) _ _ (same .below) (same .ldiag) (zs .work-long ∙ sym (ys .work-long))
-      (ap (λ (o : Outcome). load (st .n) (o .store)) (passed-is c st order s e) ∙ room-after c st order s z)
-      (ap (λ (o : Outcome). load (st .n) (o .store)) (passed-is c st order t f) ∙ room-after c st order t y)
+      (ap (λ (o : StoreOutcome). load (st .n) (o .store)) (passed-is c st order s e) ∙ room-after c st order s z)
+      (ap (λ (o : StoreOutcome). load (st .n) (o .store)) (passed-is c st order t f) ∙ room-after c st order t y)
 
 -- ---- and otherwise
 not-solve : (b d : Bool) → (b && d) ≡ false → d ≡ true → b ≡ false
@@ -174,17 +162,17 @@ rested-left st b l h r x hb hl hh e = record {
   ldiag = ap (λ (y : Room). y .ldiag) e ∙ hl;
 }
 
-call-otherwise : (c : Call) (st : State) (order : List ℕ) (s : List Float) → settling c st order s ≡ false
-    → Unsettled st (load (st .n) s) (perform c st order s .state) (load (st .n) (perform c st order s .store))
-call-otherwise c st order s h = performed c st order s (λ (o : Outcome). Unsettled st (load (st .n) s) (o .state) (load (st .n) (o .store)))
+call-otherwise : (c : StoreCall) (st : State) (order : List ℕ) (s : List Float) → settling c st order s ≡ false
+    → Unsettled st (load (st .n) s) (performStore c st order s .state) (load (st .n) (performStore c st order s .store))
+call-otherwise c st order s h = performed c st order s (λ (o : StoreOutcome). Unsettled st (load (st .n) s) (o .state) (load (st .n) (o .store)))
     (λ e.
     let r = load (st .n) s in
-    let f = effect-rests st order r c (not-solve (isSolve c) (eqb (testedOf c st order s) 0) h (eq-eqb (testedOf c st order s) 0 e)) in
+    let f = effect-rests st order r c (not-solve (isStoreSolve c) (eqb (testedOf c st order s) 0) h (eq-eqb (testedOf c st order s) 0 e)) in
     rested-left st _ _ _ r _ (f .below) (f .ldiag) (f .held) (room-after c st order s (room-sized c st order s e)))
     (λ n. record { state = refl; below = refl; ldiag = refl })
 
 -- ---- a solve and what is held
-solve-apart : (c : Call) → isSolve c ≡ true → isHeld c ≡ false
+solve-apart : (c : StoreCall) → isStoreSolve c ≡ true → isStoreHeld c ≡ false
 solve-apart (zero-solve out) h = refl
 solve-apart (damped-solve diag out) h = refl
 solve-apart (held-solve rhs out) h = absurd (true≢false (sym h))
@@ -196,7 +184,7 @@ solve-apart determined h = absurd (true≢false (sym h))
 solve-apart non-singular h = absurd (true≢false (sym h))
 
 module _ (st : State) (h : Held) (order : List ℕ) where
-  shortest-fresh : (c : Call) → isSolve c ≡ true → shortestOf c (withHeld st h) order ≡ shortestOf c st order
+  shortest-fresh : (c : StoreCall) → isStoreSolve c ≡ true → shortestOf c (withHeld st h) order ≡ shortestOf c st order
   unfolding shortestOf
   shortest-fresh (zero-solve out) a = refl
   shortest-fresh (damped-solve diag out) a = refl
@@ -208,7 +196,7 @@ module _ (st : State) (h : Held) (order : List ℕ) where
   shortest-fresh determined a = absurd (true≢false (sym a))
   shortest-fresh non-singular a = absurd (true≢false (sym a))
 
-  further-fresh : (c : Call) → isSolve c ≡ true → furtherOf c (withHeld st h) order ≡ furtherOf c st order
+  further-fresh : (c : StoreCall) → isStoreSolve c ≡ true → furtherOf c (withHeld st h) order ≡ furtherOf c st order
   unfolding furtherOf
   further-fresh (zero-solve out) a = refl
   further-fresh (damped-solve diag out) a = refl
@@ -220,7 +208,7 @@ module _ (st : State) (h : Held) (order : List ℕ) where
   further-fresh determined a = absurd (true≢false (sym a))
   further-fresh non-singular a = absurd (true≢false (sym a))
 
-  effect-fresh : (c : Call) → isSolve c ≡ true → (r : Room) → effect c (withHeld st h) order r ≡ effect c st order r
+  effect-fresh : (c : StoreCall) → isStoreSolve c ≡ true → (r : Room) → effect c (withHeld st h) order r ≡ effect c st order r
   unfolding effect
   effect-fresh (zero-solve out) a r = refl
   effect-fresh (damped-solve diag out) a r = refl
@@ -232,23 +220,23 @@ module _ (st : State) (h : Held) (order : List ℕ) where
   effect-fresh determined a r = absurd (true≢false (sym a))
   effect-fresh non-singular a r = absurd (true≢false (sym a))
 
-  tested-fresh : (c : Call) (s : List Float) → isSolve c ≡ true → isEmpty h ≡ false → testedOf c st order s ≡ 0 → testedOf c (withHeld st h) order s ≡ 0
+  tested-fresh : (c : StoreCall) (s : List Float) → isStoreSolve c ≡ true → isEmpty h ≡ false → testedOf c st order s ≡ 0 → testedOf c (withHeld st h) order s ≡ 0
   tested-fresh c s a e z =
       let f = room-tested c st order s z .filled in
       rw (e, shortest-fresh c a, further-fresh c a) (rw f at z)
 
-call-fresh : (c : Call) (st : State) (h : Held) (order : List ℕ) (s : List Float) → isEmpty h ≡ false → settling c st order s ≡ true
-    → (settling c (withHeld st h) order s ≡ true) × (perform c (withHeld st h) order s ≡ perform c st order s)
+call-fresh : (c : StoreCall) (st : State) (h : Held) (order : List ℕ) (s : List Float) → isEmpty h ≡ false → settling c st order s ≡ true
+    → (settling c (withHeld st h) order s ≡ true) × (performStore c (withHeld st h) order s ≡ performStore c st order s)
 call-fresh c st h order s e g =
-    let both = and-eq-true-iff (isSolve c) (eqb (testedOf c st order s) 0) .0 g in
+    let both = and-eq-true-iff (isStoreSolve c) (eqb (testedOf c st order s) 0) .0 g in
     let z = eqb-true (testedOf c st order s) 0 (both .1) in
     let y = tested-fresh st h order c s (both .0) e z in (
-      and-eq-true-iff (isSolve c) (eqb (testedOf c (withHeld st h) order s) 0) .1 (both .0, eq-eqb (testedOf c (withHeld st h) order s) 0 y),
+      and-eq-true-iff (isStoreSolve c) (eqb (testedOf c (withHeld st h) order s) 0) .1 (both .0, eq-eqb (testedOf c (withHeld st h) order s) 0 y),
       passed-is c (withHeld st h) order s y ∙ ap (λ (x : Effect). effected st s x) (effect-fresh st h order c (both .0) (load (st .n) s)) ∙ sym (passed-is c st order s z),
     )
 
 -- LAW
-pub laws : (c : Call) → Laws c
+pub laws : (c : StoreCall) → Laws c
 laws c = record {
   keeps = call-keeps c;
   lasts = call-lasts c;
@@ -256,7 +244,7 @@ laws c = record {
   reads = λ st order s t p q a g. call-reads c st order s t p q a g;
   settles = λ st order s t p q a h. call-settles c st order s t p q a h;
   otherwise = call-otherwise c;
-  apart = λ st order s h. solve-apart c (and-eq-true-iff (isSolve c) (eqb (testedOf c st order s) 0) .0 h .0);
+  apart = λ st order s h. solve-apart c (and-eq-true-iff (isStoreSolve c) (eqb (testedOf c st order s) 0) .0 h .0);
   fresh = λ st h order s e g. call-fresh c st h order s e g;
   orders = λ st o p s a b e. order-surplus st o p a b e c s;
 }

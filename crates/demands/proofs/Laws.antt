@@ -23,24 +23,27 @@ use Rattle.demands.specs.Calls as basic
 use Rattle.factor.specs.declared.state.State.{State}
 use Rattle.factor.specs.declared.state.Held.{Held}
 use Rattle.factor.specs.declared.state.Held.the-variants as held
-use Rattle.leaves.proofs.Refusals.{NoneHold, passed-iff, call-worked}
+use Rattle.leaves.proofs.Refusals.{passed-iff, call-worked}
 use Rattle.factor.proofs.Passed.{solve-passed}
-use Rattle.demands.proofs.Effects.{shortestOf, furtherOf, testsOf, testedOf}
+use Rattle.demands.proofs.Effects.{testedOf}
 use Rattle.demands.proofs.Leavings.{tests-numbered}
-use Rattle.demands.proofs.Tabled.{breaks}
 use Rattle.demands.proofs.Tabled as table
-use Rattle.demands.proofs.Reading.{Alike}
-use Rattle.demands.proofs.Keeping.{Kept, ToldAlike, Settled, Unsettled, Long, LawsOf}
+use Rattle.demands.proofs.Keeping.{Settled, Unsettled, LawsOf}
 use Rattle.demands.proofs.Keeping as base
 use Rattle.search.specs.Problem.{Problem}
 use Rattle.search.specs.Run.{Stop, Place}
 use Rattle.search.specs.Search.{Answer, answerOf, searched, searchCall}
-use Rattle.search.specs.Read.{Ready}
-use Rattle.demands.specs.History.{Call, search, Outcome, ofBase, ofSearch, of-base, perform, isHeld, settling}
+use Rattle.search.specs.inner.Read.{Ready}
+use Rattle.demands.specs.History.{Call, search, Outcome, ofBase, ofSearch, of-base, perform, settling}
 use Rattle.demands.specs.History as any
 use Rattle.search.specs.declared.LMParameter.{LMParameter}
 use Rattle.search.proofs.Calling.{ready}
 use Rattle.demands.proofs.SearchTable.{tests, tested, asked, given, ends, passed-is, refused-is, answered-otherwise, refused-eight}
+use Rattle.leaves.specs.Refusing.{NoneHold}
+use Rattle.demands.specs.Refusals.{shortestOf, furtherOf, storeTests}
+use Rattle.demands.specs.Eight.{storeBreaks}
+use Rattle.demands.specs.Alike.{Alike, Kept, ToldAlike, Long}
+use Rattle.demands.specs.inner.Helds.{isHeld}
 
 -- ---- got past the checks: answered or refused 8
 pub past-checks : (k t : ℕ) → (t ≡ 0 → (k ≡ 0) ⊎ (k ≡ 8)) → (k ≡ 0 → t ≡ 0) → (k ≡ 8 → t ≡ 0) → (eqb k 0 || eqb k 8) ≡ eqb t 0
@@ -55,22 +58,22 @@ past-checks k t p q r = by (eqb t 0) refl
     by false e = let n = eqb-false t 0 e in rw (ne-eqb k 0 (λ z. n (q z)), ne-eqb k 8 (λ z. n (r z)))
 
 -- ---- the calls of `factor`
-module _ (c : basic.Call) where
+module _ (c : basic.StoreCall) where
   abbrev told : State → List ℕ → List Float → ℕ
-  told st order s = basic.numberOf (basic.perform c st order s .answer)
+  told st order s = basic.storeNumber (basic.performStore c st order s .answer)
 
   pub base-settling : (st : State) (order : List ℕ) (s : List Float) → settling (any.base c) st order s ≡ base.settling c st order s
   unfolding perform
   base-settling st order s =
-      let ts = testsOf c st (length s) order in
+      let ts = storeTests c st (length s) order in
       let q = tests-numbered c st (length s) order in
-      ap (λ (b : Bool). basic.isSolve c && b)
+      ap (λ (b : Bool). basic.isStoreSolve c && b)
       (past-checks (told st order s) (testedOf c st order s)
-      (λ e. by (breaks c st order (load (st .n) s)) refl (passed-iff ts q .0 e))
+      (λ e. by (storeBreaks c st order (load (st .n) s)) refl (passed-iff ts q .0 e))
       (λ e. passed-iff ts q .1 (table.answered-otherwise c st order s .0 e .0))
       (λ e. passed-iff ts q .1 (table.refused-eight c st order s .0 e .0)))
     where
-      by : (b : Bool) → breaks c st order (load (st .n) s) ≡ b → NoneHold (testsOf c st (length s) order) → (told st order s ≡ 0) ⊎ (told st order s ≡ 8)
+      by : (b : Bool) → storeBreaks c st order (load (st .n) s) ≡ b → NoneHold (storeTests c st (length s) order) → (told st order s ≡ 0) ⊎ (told st order s ≡ 8)
       by true e n = inr (table.refused-eight c st order s .1 (n, e))
       by false e n = inl (table.answered-otherwise c st order s .1 (n, e))
 
@@ -116,7 +119,7 @@ enough n a x p = by (ltb x n) refl
     by false e = let h = ltb-false x n e in le-ltb (min a x) n (omega arith)
 
 -- the zero solve leaves the same store, whether it is answered or refused 8
-abbrev pub zero : State → basic.Call
+abbrev pub zero : State → basic.StoreCall
 zero st = basic.zero-solve (zeros (st .n))
 
 abbrev stored : Ended (Unit {0}) → List Float
@@ -171,8 +174,8 @@ module _ (diag : List Float) (radius lambda : Float) (out : List Float) where
     zero-settling : base.settling (zero st) st order s ≡ true
     zero-settling = eq-eqb (testedOf (zero st) st order s) 0 zero-tested
 
-    pub as-zero : perform this st order s .store ≡ basic.perform (zero st) st order s .store
-    unfolding perform basic.perform
+    pub as-zero : perform this st order s .store ≡ basic.performStore (zero st) st order s .store
+    unfolding perform basic.performStore
     as-zero =
         ap (λ (x : Ended LMParameter). x .store) (passed-is st order diag radius lambda s out e) ∙ searched-store st (left st s) out (answers st order s)
         ∙ sym (zero-left st order s (zeros (st .n)) (rw (length-replicate (st .n) plusZero) is-ready))

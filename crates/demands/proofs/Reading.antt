@@ -7,7 +7,7 @@ use native.Mathlib.Omega.{arith}
 use lib.ListN.{length, take}
 use lib.Ieee.{Float}
 use Rattle.leaves.specs.Reply.{Reply, answered}
-use Rattle.factor.specs.Room.{Room, Shaped}
+use Rattle.factor.specs.Room.{Room}
 use Rattle.leaves.specs.Square.{zeros, cleared}
 use Rattle.leaves.specs.Tests.{allFinite}
 use Rattle.factor.specs.Solve.{scatter, gather, nonSingular}
@@ -16,27 +16,20 @@ use Rattle.eliminate.specs.Eliminate.{Rows, heads, tails}
 use Rattle.factor.specs.Held.{heldSolved, heldProduct}
 use Rattle.measures.specs.Gradient.{gradient as measure, jxNorm}
 use Rattle.factor.specs.Outcome.{written}
-use Rattle.factor.specs.Solves.{dampedStep}
+use Rattle.factor.specs.Solves.{dampedNumbers}
 use Rattle.measures.specs.Measures.{finiteOr8}
 use Rattle.measures.specs.Rescale.{rescaled}
-use Rattle.demands.specs.Calls.{number, count, truth, scaled, Call, zero-solve, damped-solve, held-solve, held-product, gradient, jx-norm, scaling, determined, non-singular, isSolve, isHeld}
+use Rattle.demands.specs.Calls.{number, count, truth, scaled, StoreCall, zero-solve, damped-solve, held-solve, held-product, gradient, jx-norm, scaling, determined, non-singular, isStoreSolve}
 use Rattle.factor.specs.declared.state.Held.{Held}
 use Rattle.factor.specs.declared.state.Held.the-variants as held
 use Rattle.factor.specs.declared.state.State.{State}
 use Rattle.factor.proofs.Damped.{cleared-same}
-use Rattle.demands.proofs.Effects.{Effect, effect, finiteOr, zeroX, dampedL}
+use Rattle.demands.proofs.Effects.{Effect, effect, finiteOr}
 use Rattle.demands.proofs.Leavings.{either}
-
--- two rooms with the same R, qt_b and norms
-pub record Alike (r t : Room) : Type 0 where
-  pub upper : r .upper ≡ t .upper
-  pub qtb : r .qtb ≡ t .qtb
-  pub norms : r .norms ≡ t .norms
-
--- and with the same left in them by a solve
-pub record HeldAlike (r t : Room) : Type 0 where
-  pub below : r .below ≡ t .below
-  pub ldiag : r .ldiag ≡ t .ldiag
+use Rattle.factor.specs.inner.Rooms.{Shaped}
+use Rattle.demands.specs.inner.Helds.{isStoreHeld}
+use Rattle.demands.specs.Eight.{zeroX, dampedL}
+use Rattle.demands.specs.Alike.{Alike, HeldAlike}
 
 -- what the caller is told, and what is left for the held calls
 pub record SameTold (e f : Effect) : Type 0 where
@@ -89,16 +82,16 @@ module _ (st : State) (order : List ℕ) (r t : Room) (a : Alike r t) where
   zero-out out = ap (λ (x : List Float). scatter (take (st .n) order) x out) zero-same
 
   damped-out : (diag out : List Float)
-      → scatter (take (st .n) order) (dampedStep (dampedL st order diag r)) out ≡ scatter (take (st .n) order) (dampedStep (dampedL st order diag t)) out
-  damped-out diag out = ap (λ (l : Rows). scatter (take (st .n) order) (dampedStep l) out) (damped-same diag)
+      → scatter (take (st .n) order) (dampedNumbers (dampedL st order diag r)) out ≡ scatter (take (st .n) order) (dampedNumbers (dampedL st order diag t)) out
+  damped-out diag out = ap (λ (l : Rows). scatter (take (st .n) order) (dampedNumbers l) out) (damped-same diag)
 
   -- LAW: answer, what is held, and output
-  pub effect-reads : (c : Call) → (isHeld c ≡ true → HeldAlike r t) → SameTold (effect c st order r) (effect c st order t)
+  pub effect-reads : (c : StoreCall) → (isStoreHeld c ≡ true → HeldAlike r t) → SameTold (effect c st order r) (effect c st order t)
   unfolding effect
   effect-reads (zero-solve out) h =
       both SameTold _ _ _ _ _ _ zero-same (record { answer = refl; held = refl; out = zero-out out }) (record { answer = refl; held = refl; out = refl })
   effect-reads (damped-solve diag out) h =
-      both SameTold _ _ _ _ _ _ (ap (λ (l : Rows). dampedStep l) (damped-same diag)) (record { answer = refl; held = refl; out = damped-out diag out })
+      both SameTold _ _ _ _ _ _ (ap (λ (l : Rows). dampedNumbers l) (damped-same diag)) (record { answer = refl; held = refl; out = damped-out diag out })
       (record { answer = refl; held = refl; out = refl })
   effect-reads (held-solve rhs out) h =
       let e = solved-same (st .held) (gather (take (st .n) order) rhs) r t a (h refl) in
@@ -135,12 +128,12 @@ module _ (st : State) (order : List ℕ) (r t : Room) (a : Alike r t) where
     damped-left diag = (ap (λ (l : Rows). tails (l .0)) (damped-same diag), ap (λ (l : Rows). heads (l .0)) (damped-same diag))
 
     -- LAW: what a solve leaves, whatever stood below the diagonal and in l_diag
-    pub effect-settles : (c : Call) → isSolve c ≡ true → SameLeft (effect c st order r) (effect c st order t)
+    pub effect-settles : (c : StoreCall) → isStoreSolve c ≡ true → SameLeft (effect c st order r) (effect c st order t)
     unfolding effect
     effect-settles (zero-solve out) h =
         both SameLeft _ _ _ _ _ _ zero-same (record { below = below-cleared; ldiag = ldiag-cleared }) (record { below = below-cleared; ldiag = ldiag-cleared })
     effect-settles (damped-solve diag out) h =
-        both SameLeft _ _ _ _ _ _ (ap (λ (l : Rows). dampedStep l) (damped-same diag)) (record { below = damped-left diag .0; ldiag = damped-left diag .1 })
+        both SameLeft _ _ _ _ _ _ (ap (λ (l : Rows). dampedNumbers l) (damped-same diag)) (record { below = damped-left diag .0; ldiag = damped-left diag .1 })
         (record { below = below-cleared; ldiag = ldiag-cleared })
     effect-settles (held-solve rhs out) h = absurd (true≢false (sym h))
     effect-settles (held-product out) h = absurd (true≢false (sym h))
@@ -151,7 +144,7 @@ module _ (st : State) (order : List ℕ) (r t : Room) (a : Alike r t) where
     effect-settles non-singular h = absurd (true≢false (sym h))
 
 -- LAW: every other call rests.
-pub effect-rests : (st : State) (order : List ℕ) (r : Room) (c : Call) → isSolve c ≡ false → Rests st r (effect c st order r)
+pub effect-rests : (st : State) (order : List ℕ) (r : Room) (c : StoreCall) → isStoreSolve c ≡ false → Rests st r (effect c st order r)
 unfolding effect
 effect-rests st order r (zero-solve out) h = absurd (true≢false h)
 effect-rests st order r (damped-solve diag out) h = absurd (true≢false h)

@@ -19,20 +19,20 @@ use Rattle.leaves.specs.Root.{rootS}
 use Rattle.leaves.specs.Vector.{scaleAll}
 use Rattle.leaves.proofs.Replies.{answered-same, refused-answered}
 use Rattle.leaves.proofs.Normed.{norm-products}
-use Rattle.factor.specs.Room.{Room, Shaped, load, lay, emptied}
+use Rattle.factor.specs.Room.{Room, load, lay, emptied}
 use Rattle.leaves.specs.Tests.{allFinite}
 use Rattle.factor.specs.Solve.{zeroSolved, gather, dampedSolved}
 use Rattle.eliminate.specs.Eliminate.{damping, heads, tails}
 use Rattle.factor.specs.Outcome.{Ended, written}
 use Rattle.demands.specs.Calls.{replyNumber}
 use Rattle.factor.specs.declared.state.State.{State}
-use Rattle.leaves.proofs.Refusals.{NoneHold, passed-iff}
+use Rattle.leaves.proofs.Refusals.{passed-iff}
 use Rattle.factor.proofs.Passed.{finite-all}
 use Rattle.search.specs.Problem.{Problem, placed, undampedStep, dampedRows, dampedStep, scaledNorm}
 use Rattle.search.specs.Bounds.{band}
 use Rattle.search.specs.Run.{Stop, undamped, ten, within, falling, isWithin, runOf}
 use Rattle.search.specs.Search.{Answer, answerOf, searched, searchCall}
-use Rattle.search.specs.Read.{Ready}
+use Rattle.search.specs.inner.Read.{Ready}
 use Rattle.search.specs.declared.LMParameter.{LMParameter}
 use Rattle.search.proofs.Shapes.{placed-length, zero-length, damped-length, gathered-even}
 use Rattle.search.proofs.Workings.{shaped, order-long}
@@ -40,7 +40,10 @@ use Rattle.search.proofs.Calling.{ready, diag-long}
 use Rattle.demands.proofs.SearchTable.{tests, tested, asked, call, ends, passed-is, answered-otherwise}
 use Rattle.search.proofs.Runs.{Counted, stop-same}
 use Rattle.search.proofs.Signs.{above-not-below}
+use Rattle.search.proofs.Falling.{falling-not-first}
 use Rattle.search.proofs.Rules.{Undamped, Damped, Answered, answered-rules}
+use Rattle.factor.specs.inner.Rooms.{Shaped}
+use Rattle.leaves.specs.Refusing.{NoneHold}
 
 searched-answers : (st : State) (s out : List Float) (x : Reply Answer) (a : LMParameter) → searched st s out x .reply ≡ answered a
     → (b : Answer) × ((x ≡ answered b) × ((b .0 ≡ a) × (searched st s out x .out ≡ written (b .1) out)))
@@ -188,6 +191,10 @@ module _ (st : State) (order : List ℕ) (diag : List Float) (radius lambda : Fl
         by : (b : Bool) → le overshoot (band radius) ≡ b → a .trials ≤ 10
         by true e = let z = no-trial e in omega arith
         by false e = trial-rule e .1 .1 .0
+
+    -- LAW: the last of them takes two trials at least
+    pub falling-later : ends st order diag radius lambda store out ≡ inl falling → 2 ≤ a .trials
+    falling-later e = subst (λ (k : ℕ). 2 ≤ k) (sym (rules .counts)) (falling-not-first problem-asked lambda e)
 
     -- LAW: by the first of them the scaled norm is within a tenth of the radius of it
     pub within-band : ends st order diag radius lambda store out ≡ inl within → le (absOf (sub binary64 (a .«dp_norm») radius)) (band radius) ≡ true

@@ -20,7 +20,7 @@ use Rattle.factor.specs.Outcome.{Ended, ended}
 use Rattle.demands.specs.Calls.{replyNumber}
 use Rattle.factor.specs.declared.state.State.{State}
 use Rattle.factor.specs.declared.state.Held.the-variants as held
-use Rattle.leaves.proofs.Refusals.{NoneHold, RefusedBy, refused-iff, passed-iff, call-worked}
+use Rattle.leaves.proofs.Refusals.{refused-iff, passed-iff, call-worked}
 use Rattle.search.specs.Problem.{Problem}
 use Rattle.search.specs.Run.{Run, Stop, Place, stopped, last, trial, runOf}
 use Rattle.search.specs.Run as run
@@ -28,6 +28,7 @@ use Rattle.search.specs.Search.{Answer, concluded, answerOf, problemOf, searchT
 use Rattle.search.specs.Ending.{ending}
 use Rattle.search.specs.declared.LMParameter.{LMParameter}
 use Rattle.search.proofs.Calling.{call-is-refused}
+use Rattle.leaves.specs.Refusing.{NoneHold, RefusedBy}
 
 -- ---- the tests' numbers are below 8
 abbrev pub small : List Test → Bool

@@ -10,10 +10,11 @@ use lib.Ieee.{Float}
 use borrow.Author.Tests.{ltb-true, ltb-false, lt-ltb, le-ltb}
 use Rattle.factor.specs.Room.{Room, load}
 use Rattle.leaves.specs.Tests.{Test, firstOf}
-use Rattle.demands.specs.Calls.{Outcome, Call, zero-solve, damped-solve, held-solve, held-product, gradient, jx-norm, scaling, determined, non-singular, perform}
+use Rattle.demands.specs.Calls.{StoreOutcome, StoreCall, zero-solve, damped-solve, held-solve, held-product, gradient, jx-norm, scaling, determined, non-singular, performStore}
 use Rattle.factor.specs.declared.state.State.{State}
 use Rattle.measures.specs.declared.scaling.Mode.the-variants as mode
-use Rattle.demands.proofs.Effects.{Effect, effect, effected, refusal, shortestOf, furtherOf, testsOf, testedOf, perform-is}
+use Rattle.demands.proofs.Effects.{Effect, effect, effected, testedOf, perform-is}
+use Rattle.demands.specs.Refusals.{storeRefusal, shortestOf, furtherOf, storeTests}
 
 -- a slice that is long enough does not decide
 least-same : (n a b x : ℕ) → n ≤ a → n ≤ b → ltb (min a x) n ≡ ltb (min b x) n
@@ -24,7 +25,7 @@ least-same n a b x p q = by (ltb x n) refl
     by false e = let h = ltb-false x n e in le-ltb (min a x) n (omega arith) ∙ sym (le-ltb (min b x) n (omega arith))
 
 module _ (st : State) (o p : List ℕ) (lo : st .n ≤ length o) (lp : st .n ≤ length p) (same : take (st .n) o ≡ take (st .n) p) where
-  shortest-same : (c : Call) → ltb (shortestOf c st o) (st .n) ≡ ltb (shortestOf c st p) (st .n)
+  shortest-same : (c : StoreCall) → ltb (shortestOf c st o) (st .n) ≡ ltb (shortestOf c st p) (st .n)
   unfolding shortestOf
   shortest-same (zero-solve out) = least-same (st .n) (length o) (length p) (length out) lo lp
   shortest-same (damped-solve diag out) = least-same (st .n) (length o) (length p) (min (length diag) (length out)) lo lp
@@ -39,7 +40,7 @@ module _ (st : State) (o p : List ℕ) (lo : st .n ≤ length o) (lp : st .n ≤
   shortest-same determined = refl
   shortest-same non-singular = refl
 
-  further-same : (c : Call) → furtherOf c st o ≡ furtherOf c st p
+  further-same : (c : StoreCall) → furtherOf c st o ≡ furtherOf c st p
   unfolding furtherOf
   further-same (zero-solve out) = rw same
   further-same (damped-solve diag out) = rw same
@@ -54,7 +55,7 @@ module _ (st : State) (o p : List ℕ) (lo : st .n ≤ length o) (lp : st .n ≤
   further-same determined = refl
   further-same non-singular = refl
 
-  effect-same : (c : Call) (r : Room) → effect c st o r ≡ effect c st p r
+  effect-same : (c : StoreCall) (r : Room) → effect c st o r ≡ effect c st p r
   unfolding effect
   effect-same (zero-solve out) r = rw same
   effect-same (damped-solve diag out) r = rw same
@@ -66,14 +67,14 @@ module _ (st : State) (o p : List ℕ) (lo : st .n ≤ length o) (lp : st .n ≤
   effect-same determined r = refl
   effect-same non-singular r = refl
 
-  tests-same : (c : Call) (k : ℕ) → testsOf c st k o ≡ testsOf c st k p
+  tests-same : (c : StoreCall) (k : ℕ) → storeTests c st k o ≡ storeTests c st k p
   tests-same c k = rw (shortest-same c, further-same c)
 
-  abbrev told-by : Call → List Float → ℕ → Effect → Outcome
-  told-by c s k e = elim (eqb k 0) [ true ↦ effected st s e | false ↦ refusal c k st s ]
+  abbrev told-by : StoreCall → List Float → ℕ → Effect → StoreOutcome
+  told-by c s k e = elim (eqb k 0) [ true ↦ effected st s e | false ↦ storeRefusal c k st s ]
 
   -- LAW
-  pub order-surplus : (c : Call) (s : List Float) → perform c st o s ≡ perform c st p s
+  pub order-surplus : (c : StoreCall) (s : List Float) → performStore c st o s ≡ performStore c st p s
   order-surplus c s =
       let r = load (st .n) s in
       perform-is c st o s ∙ ap (λ (ts : List Test). told-by c s (firstOf ts) (effect c st o r)) (tests-same c (length s))

@@ -14,64 +14,38 @@ use borrow.Author.Tests.{ltb-true, eqb-true, eqb-false}
 use Rattle.leaves.specs.Reply.{Reply, answered, refused}
 use Rattle.leaves.specs.Number.{plusZero, maxOf, isFinite}
 use Rattle.leaves.specs.Norm.{norm}
-use Rattle.leaves.specs.Product.{productAll, dividedBy}
+use Rattle.leaves.specs.Product.{productAll}
 use Rattle.factor.specs.State.{isEmpty, storeNeed}
 use Rattle.leaves.specs.Tests.{outside, Test, firstOf, allFinite}
 use Rattle.factor.specs.Room.{Room, load}
 use Rattle.factor.specs.Solve.{gather}
 use Rattle.factor.specs.Held.{heldSolved, heldProduct}
-use Rattle.measures.specs.Gradient.{gradient as measure, measures, largest, jxNorm}
+use Rattle.measures.specs.Gradient.{gradient as measure, largest, jxNorm}
 use Rattle.measures.specs.Scaling.{firstScaling, laterScaling, startBy, usable}
-use Rattle.factor.specs.Solves.{dampedStep}
+use Rattle.factor.specs.Solves.{dampedNumbers}
 use Rattle.measures.specs.Measures.{finiteOr8}
 use Rattle.measures.specs.Rescale.{Scaled, orRefused, rescaled}
-use Rattle.demands.specs.Calls.{replyNumber, numberOf, Outcome, Call, zero-solve, damped-solve, held-solve, held-product, gradient, jx-norm, scaling, determined, non-singular, perform, run}
+use Rattle.demands.specs.Calls.{replyNumber, storeNumber, StoreOutcome, StoreCall, zero-solve, damped-solve, held-solve, held-product, gradient, jx-norm, scaling, determined, non-singular, performStore, run}
 use Rattle.factor.specs.declared.state.State.{State}
 use Rattle.measures.specs.declared.scaling.Mode.the-variants as mode
-use Rattle.leaves.proofs.Refusals.{NoneHold, RefusedBy, refused-iff, passed-iff}
-use Rattle.demands.proofs.Effects.{Effect, effect, finiteOr, zeroX, dampedL, refusal, refusedAs, shortestOf, furtherOf, testsOf, testedOf}
+use Rattle.leaves.proofs.Refusals.{refused-iff, passed-iff}
+use Rattle.demands.proofs.Effects.{Effect, effect, finiteOr, testedOf}
 use Rattle.demands.proofs.Leavings.{tests-numbered, passed-is, refused-is}
+use Rattle.leaves.specs.Refusing.{NoneHold, RefusedBy}
+use Rattle.demands.specs.Refusals.{storeRefusal, refusedAs, shortestOf, furtherOf, storeTests}
+use Rattle.demands.specs.Eight.{zeroX, dampedL, topOf, anyNan, measured, storeBreaks}
 
 -- ---- 8, call by call
-
--- the largest of the measures, and whether one is NaN
-abbrev pub topOf : Float → List Float → Float
-topOf top [] = top
-topOf top (x ∷ xs) = topOf (maxOf top x) xs
-
-abbrev pub anyNan : List Float → Bool
-anyNan [] = false
-anyNan (x ∷ xs) = isNan x || anyNan xs
-
-abbrev pub measured : State → List ℕ → Float → Room → List Float
-measured st order bnorm r = measures (dividedBy bnorm (r .qtb)) (r .upper) (gather (take (st .n) order) (r .norms))
-
--- an answer is not finite; `determined` and `non-singular` have no such test
-unfoldable pub breaks : Call → State → List ℕ → Room → Bool
-breaks (zero-solve out) st order r = not (allFinite (zeroX st r))
-breaks (damped-solve diag out) st order r = not (allFinite (dampedStep (dampedL st order diag r)))
-breaks (held-solve rhs out) st order r = not (allFinite (heldSolved (st .held) (gather (take (st .n) order) rhs) r))
-breaks (held-product out) st order r = not (allFinite (heldProduct (st .held) r))
-breaks (gradient bnorm) st order r = anyNan (measured st order bnorm r) || not (isFinite (topOf plusZero (measured st order bnorm r)))
-breaks (jx-norm x) st order r = not (isFinite (jxNorm (gather (take (st .n) order) x) (r .upper)))
-breaks (scaling mode.FirstScaled diag x bound) st order r =
-    let d = firstScaling (r .norms) in
-    not (allFinite d && usable (startBy bound (norm (productAll d (take (st .n) x)))))
-breaks (scaling mode.FirstUnscaled diag x bound) st order r = not (usable (startBy bound (norm (take (st .n) x))))
-breaks (scaling mode.LaterScaled diag x bound) st order r = not (allFinite (laterScaling (r .norms) (take (st .n) diag)))
-breaks (scaling mode.LaterUnscaled diag x bound) st order r = false
-breaks determined st order r = false
-breaks non-singular st order r = false
 
 abbrev eightIf : Bool → ℕ
 eightIf b = cond b 8 0
 
-finite-number : (x : List Float) (e f : Effect) → numberOf (e .answer) ≡ 0 → numberOf (f .answer) ≡ 8
-    → numberOf (finiteOr x e f .answer) ≡ eightIf (not (allFinite x))
+finite-number : (x : List Float) (e f : Effect) → storeNumber (e .answer) ≡ 0 → storeNumber (f .answer) ≡ 8
+    → storeNumber (finiteOr x e f .answer) ≡ eightIf (not (allFinite x))
 unfolding finiteOr
 finite-number x e f p q = by (allFinite x)
   where
-    by : (b : Bool) → (let g : Effect = elim b [ true ↦ e | false ↦ f ] in numberOf (g .answer) ≡ eightIf (not b))
+    by : (b : Bool) → (let g : Effect = elim b [ true ↦ e | false ↦ f ] in storeNumber (g .answer) ≡ eightIf (not b))
     by true = p
     by false = q
 
@@ -101,10 +75,10 @@ rescaled-number : (ok : Bool) (a : Scaled) (new old : List Float) → replyNumbe
 rescaled-number true a new old = refl
 rescaled-number false a new old = refl
 
-pub effect-number : (c : Call) (st : State) (order : List ℕ) (r : Room) → numberOf (effect c st order r .answer) ≡ eightIf (breaks c st order r)
-unfolding effect breaks measure rescaled
+pub effect-number : (c : StoreCall) (st : State) (order : List ℕ) (r : Room) → storeNumber (effect c st order r .answer) ≡ eightIf (storeBreaks c st order r)
+unfolding effect storeBreaks measure rescaled
 effect-number (zero-solve out) st order r = finite-number (zeroX st r) _ _ refl refl
-effect-number (damped-solve diag out) st order r = finite-number (dampedStep (dampedL st order diag r)) _ _ refl refl
+effect-number (damped-solve diag out) st order r = finite-number (dampedNumbers (dampedL st order diag r)) _ _ refl refl
 effect-number (held-solve rhs out) st order r = finite-number (heldSolved (st .held) (gather (take (st .n) order) rhs) r) _ _ refl refl
 effect-number (held-product out) st order r = finite-number (heldProduct (st .held) r) _ _ refl refl
 effect-number (gradient bnorm) st order r = largest-number plusZero (measured st order bnorm r)
@@ -129,7 +103,7 @@ first-small [] h = omega arith
 first-small ((true, k) ∷ ts) h = ltb-true k 8 (and-eq-true-iff (ltb k 8) (small ts) .0 h .0)
 first-small ((false, k) ∷ ts) h = first-small ts (and-eq-true-iff (ltb k 8) (small ts) .0 h .1)
 
-further-small : (c : Call) (st : State) (order : List ℕ) → small (furtherOf c st order) ≡ true
+further-small : (c : StoreCall) (st : State) (order : List ℕ) → small (furtherOf c st order) ≡ true
 unfolding furtherOf
 further-small (zero-solve out) st order = refl
 further-small (damped-solve diag out) st order = refl
@@ -144,10 +118,10 @@ further-small (scaling mode.LaterUnscaled diag x bound) st order = refl
 further-small determined st order = refl
 further-small non-singular st order = refl
 
-tested-small : (c : Call) (st : State) (order : List ℕ) (s : List Float) → testedOf c st order s < 8
-tested-small c st order s = first-small (testsOf c st (length s) order) (further-small c st order)
+tested-small : (c : StoreCall) (st : State) (order : List ℕ) (s : List Float) → testedOf c st order s < 8
+tested-small c st order s = first-small (storeTests c st (length s) order) (further-small c st order)
 
-refused-number : (c : Call) (k : ℕ) → numberOf (refusedAs c k) ≡ k
+refused-number : (c : StoreCall) (k : ℕ) → storeNumber (refusedAs c k) ≡ k
 refused-number (zero-solve out) k = refl
 refused-number (damped-solve diag out) k = refl
 refused-number (held-solve rhs out) k = refl
@@ -171,21 +145,21 @@ either-way : (b : Bool) (k : ℕ) → 0 < k → k < 8 → eightIf b ≡ k → �
 either-way true k p q e = omega arith
 either-way false k p q e = omega arith
 
-module _ (c : Call) (st : State) (order : List ℕ) (s : List Float) where
+module _ (c : StoreCall) (st : State) (order : List ℕ) (s : List Float) where
   abbrev tests : List Test
-  tests = testsOf c st (length s) order
+  tests = storeTests c st (length s) order
 
   abbrev given : ℕ
-  given = numberOf (perform c st order s .answer)
+  given = storeNumber (performStore c st order s .answer)
 
   abbrev broke : Bool
-  broke = breaks c st order (load (st .n) s)
+  broke = storeBreaks c st order (load (st .n) s)
 
   passed-number : testedOf c st order s ≡ 0 → given ≡ eightIf broke
-  passed-number e = ap (λ (o : Outcome). numberOf (o .answer)) (passed-is c st order s e) ∙ effect-number c st order (load (st .n) s)
+  passed-number e = ap (λ (o : StoreOutcome). storeNumber (o .answer)) (passed-is c st order s e) ∙ effect-number c st order (load (st .n) s)
 
   stopped-number : (testedOf c st order s ≡ 0 → ⊥) → given ≡ testedOf c st order s
-  stopped-number h = ap (λ (o : Outcome). numberOf (o .answer)) (refused-is c st order s h) ∙ refused-number c (testedOf c st order s)
+  stopped-number h = ap (λ (o : StoreOutcome). storeNumber (o .answer)) (refused-is c st order s h) ∙ refused-number c (testedOf c st order s)
 
   by-number : (P : ℕ → Type 0) → (testedOf c st order s ≡ 0 → P (eightIf broke)) → ((testedOf c st order s ≡ 0 → ⊥) → P (testedOf c st order s)) → P given
   by-number P p q = decide (eqb (testedOf c st order s) 0) refl
@@ -202,10 +176,10 @@ module _ (c : Call) (st : State) (order : List ℕ) (s : List Float) where
   )
 
   -- LAW: and then everything is as it came
-  pub refused-whole : (k : ℕ) → 0 < k → RefusedBy tests k → perform c st order s ≡ refusal c k st s
+  pub refused-whole : (k : ℕ) → 0 < k → RefusedBy tests k → performStore c st order s ≡ storeRefusal c k st s
   refused-whole k p r =
       let e = refused-iff tests k p .1 r in
-      refused-is c st order s (λ z. let j = sym e ∙ z in omega arith) ∙ ap (λ (i : ℕ). refusal c i st s) e
+      refused-is c st order s (λ z. let j = sym e ∙ z in omega arith) ∙ ap (λ (i : ℕ). storeRefusal c i st s) e
 
   none-met : testedOf c st order s ≡ 0 → NoneHold tests
   none-met e = passed-iff tests (tests-numbered c st (length s) order) .0 e
@@ -232,12 +206,12 @@ module _ (c : Call) (st : State) (order : List ℕ) (s : List Float) where
   after-first = (outside (st .m) (st .n), 2) ∷ (ltb (length s) (storeNeed (st .n)) || ltb (shortestOf c st order) (st .n), 3) ∷ furtherOf c st order
 
   -- LAW: 5 for an empty state, before anything is read
-  pub refused-empty : isEmpty (st .held) ≡ true → perform c st order s ≡ refusal c 5 st s
+  pub refused-empty : isEmpty (st .held) ≡ true → performStore c st order s ≡ storeRefusal c 5 st s
   refused-empty h = refused-whole 5 (omega arith) (record { earlier = []; later = after-first; splits = ap (λ (b : Bool). (b, 5) ∷ after-first) h; none-earlier = tt })
 
 -- LAW: after a refused factoring no run changes anything
-pub empty-run : (order : List ℕ) (cs : List Call) (st : State) (s : List Float) → isEmpty (st .held) ≡ true → run perform order cs st s ≡ (st, s)
+pub empty-run : (order : List ℕ) (cs : List StoreCall) (st : State) (s : List Float) → isEmpty (st .held) ≡ true → run performStore order cs st s ≡ (st, s)
 unfolding run
 empty-run order [] st s h = refl
 empty-run order (c ∷ cs) st s h =
-    ap (λ (o : Outcome). run perform order cs (o .state) (o .store)) (refused-empty c st order s h) ∙ empty-run order cs st s h
+    ap (λ (o : StoreOutcome). run performStore order cs (o .state) (o .store)) (refused-empty c st order s h) ∙ empty-run order cs st s h

@@ -1,9 +1,9 @@
--- 01, 'Refusal numbers', as one table of every public call that takes a state, `factor`'s and the search: each number exactly when its condition
+-- 01, 'Refusal numbers', as one table of the calls of `specs/History.antt`, which take a state: each number exactly when its condition
 -- holds and none that is tested before it, and what is then in the lent slices. Assumes nothing.
 use mathlib.Core.Path.{_≡_, refl, sym, ap, _∙_}
 use mathlib.Core.Bool.{Bool, true, false, _&&_, and-eq-true-iff}
 use mathlib.Core.List.{List, []}
-use mathlib.Core.Logic.{_↔_, inl, inr}
+use mathlib.Core.Logic.{_↔_}
 use Prim.Native.Nat.{ℕ, _<_}
 use native.Mathlib.Omega.{arith}
 use lib.Dec.{eqb}
@@ -13,49 +13,40 @@ use borrow.Author.Tests.{eqb-true, eq-eqb}
 use Rattle.leaves.specs.Norm.{norm}
 use Rattle.leaves.specs.Product.{productAll}
 use Rattle.leaves.specs.Reply.{Reply, answered, refused}
-use Rattle.factor.specs.State.{withHeld}
-use Rattle.factor.specs.Room.{Room, load, lay, leaving, emptied, rested}
+use Rattle.factor.specs.Room.{Room, load, lay, leaving, rested}
 use Rattle.leaves.specs.Square.{zeros}
-use Rattle.leaves.specs.Tests.{Test, firstOf, allFinite}
+use Rattle.leaves.specs.Tests.{firstOf, allFinite}
 use Rattle.factor.specs.Solve.{gather}
 use Rattle.factor.specs.Held.{heldSolved, heldProduct}
 use Rattle.measures.specs.Scaling.{firstScaling, laterScaling, startBy, usable}
-use Rattle.factor.specs.Solves.{dampedStep}
-use Rattle.factor.specs.Outcome.{ended, written}
+use Rattle.factor.specs.Solves.{dampedNumbers}
+use Rattle.factor.specs.Outcome.{written}
 use Rattle.measures.specs.Rescale.{Scaled, first, later, orRefused, rescaled}
 use Rattle.demands.specs.Calls as basic
 use Rattle.demands.specs.Calls.{replyNumber}
 use Rattle.factor.specs.declared.state.State.{State}
-use Rattle.factor.specs.declared.state.Held.the-variants as held
 use Rattle.measures.specs.declared.scaling.Mode.{Mode}
 use Rattle.measures.specs.declared.scaling.Mode.the-variants as mode
-use Rattle.leaves.proofs.Refusals.{NoneHold, RefusedBy, passed-iff}
-use Rattle.demands.proofs.Effects.{Effect, effect, effected, finiteOr, zeroX, dampedL, refusedAs, lentOut}
+use Rattle.leaves.proofs.Refusals.{passed-iff}
+use Rattle.demands.proofs.Effects.{Effect, effect, effected, finiteOr}
 use Rattle.demands.proofs.Effects as base
 use Rattle.factor.proofs.Layouts.{load-shaped}
 use Rattle.demands.proofs.Leavings.{tests-numbered, passed-is, room-sized, room-after}
 use Rattle.demands.proofs.Tabled as base-table
-use Rattle.search.specs.Run.{Stop, Place}
-use Rattle.search.specs.Search.{searchTests}
-use Rattle.demands.specs.History.{Call, search, Outcome, ofBase, ofSearch, numberOf, perform, isSolve, settling}
+use Rattle.demands.specs.History.{Call, search, ofBase, ofSearch, numberOf, perform, isSolve, settling}
 use Rattle.demands.specs.History as any
 use Rattle.demands.proofs.SearchTable as table
 use Rattle.demands.proofs.Laws.{zero, as-zero, zero-tested, base-settling, search-settling}
-use Rattle.demands.proofs.AsFresh.{refusal}
+use Rattle.leaves.specs.Refusing.{NoneHold, RefusedBy}
+use Rattle.demands.specs.Refusals.{testsOf, refusal, storeTests}
+use Rattle.demands.specs.Eight.{zeroX, dampedL, storeLeftByEight, Breaks, Stands, leftByEight}
 
--- ---- 8, of a call of `factor`: a solve leaves the room emptied and held nothing, another call the room with work +0; no output is written
-abbrev pub afterEight : basic.Call → State → List Float → basic.Outcome
-afterEight c st s = elim (basic.isSolve c) [
-  | true ↦ basic.outcome (refusedAs c 8) (withHeld st held.Nothing) (lay (emptied (load (st .n) s))) (lentOut c)
-  | false ↦ basic.outcome (refusedAs c 8) st (lay (rested (load (st .n) s))) (lentOut c)
-]
-
-either : (st : State) (s x : List Float) (e f : Effect) (o : basic.Outcome) → basic.numberOf (e .answer) ≡ 0 → effected st s f ≡ o
-    → basic.numberOf (finiteOr x e f .answer) ≡ 8 → effected st s (finiteOr x e f) ≡ o
+either : (st : State) (s x : List Float) (e f : Effect) (o : basic.StoreOutcome) → basic.storeNumber (e .answer) ≡ 0 → effected st s f ≡ o
+    → basic.storeNumber (finiteOr x e f .answer) ≡ 8 → effected st s (finiteOr x e f) ≡ o
 unfolding finiteOr
 either st s x e f o z h = by (allFinite x)
   where
-    by : (b : Bool) → (let g : Effect = elim b [ true ↦ e | false ↦ f ] in basic.numberOf (g .answer) ≡ 8 → effected st s g ≡ o)
+    by : (b : Bool) → (let g : Effect = elim b [ true ↦ e | false ↦ f ] in basic.storeNumber (g .answer) ≡ 8 → effected st s g ≡ o)
     by true n = absurd (omega arith)
     by false n = h
 
@@ -83,50 +74,30 @@ module _ (st : State) (order : List ℕ) (s : List Float) where
   room = load (st .n) s
 
   scaled-left : (r : Reply Scaled × List Float) (diag : List Float) → (r .0 ≡ refused 8) × (r .1 ≡ diag)
-      → basic.outcome (basic.scaled (r .0)) st (lay (rested room)) (r .1) ≡ basic.outcome (basic.scaled (refused 8)) st (lay (rested room)) diag
+      → basic.storeOutcome (basic.scaled (r .0)) st (lay (rested room)) (r .1) ≡ basic.storeOutcome (basic.scaled (refused 8)) st (lay (rested room)) diag
   scaled-left r diag h =
-      ap (λ (x : Reply Scaled). basic.outcome (basic.scaled x) st (lay (rested room)) (r .1)) (h .0)
-      ∙ ap (λ (x : List Float). basic.outcome (basic.scaled (refused 8)) st (lay (rested room)) x) (h .1)
+      ap (λ (x : Reply Scaled). basic.storeOutcome (basic.scaled x) st (lay (rested room)) (r .1)) (h .0)
+      ∙ ap (λ (x : List Float). basic.storeOutcome (basic.scaled (refused 8)) st (lay (rested room)) x) (h .1)
 
-  effect-eight : (c : basic.Call) → basic.numberOf (effect c st order room .answer) ≡ 8 → effected st s (effect c st order room) ≡ afterEight c st s
+  effect-eight : (c : basic.StoreCall) → basic.storeNumber (effect c st order room .answer) ≡ 8 → effected st s (effect c st order room) ≡ storeLeftByEight c st s
   unfolding effect
   effect-eight (basic.zero-solve out) h = either st s (zeroX st room) _ _ _ refl refl h
-  effect-eight (basic.damped-solve diag out) h = either st s (dampedStep (dampedL st order diag room)) _ _ _ refl refl h
+  effect-eight (basic.damped-solve diag out) h = either st s (dampedNumbers (dampedL st order diag room)) _ _ _ refl refl h
   effect-eight (basic.held-solve rhs out) h = either st s (heldSolved (st .held) (gather (take (st .n) order) rhs) room) _ _ _ refl refl h
   effect-eight (basic.held-product out) h = either st s (heldProduct (st .held) room) _ _ _ refl refl h
-  effect-eight (basic.gradient bnorm) h = ap (λ (x : Reply Float). basic.outcome (basic.number x) st (lay (rested room)) []) (by-eight _ h)
-  effect-eight (basic.jx-norm x) h = ap (λ (x : Reply Float). basic.outcome (basic.number x) st (lay (rested room)) []) (by-eight _ h)
+  effect-eight (basic.gradient bnorm) h = ap (λ (x : Reply Float). basic.storeOutcome (basic.number x) st (lay (rested room)) []) (by-eight _ h)
+  effect-eight (basic.jx-norm x) h = ap (λ (x : Reply Float). basic.storeOutcome (basic.number x) st (lay (rested room)) []) (by-eight _ h)
   effect-eight (basic.scaling md diag x bound) h = scaled-left (rescaled md (st .n) (room .norms) diag x bound) diag (rescaled-eight md (st .n) (room .norms) diag x bound h)
   effect-eight basic.determined h = absurd (omega arith)
   effect-eight basic.non-singular h = absurd (omega arith)
 
-  base-eight : (c : basic.Call) → basic.numberOf (basic.perform c st order s .answer) ≡ 8 → basic.perform c st order s ≡ afterEight c st s
+  base-eight : (c : basic.StoreCall) → basic.storeNumber (basic.performStore c st order s .answer) ≡ 8 → basic.performStore c st order s ≡ storeLeftByEight c st s
   base-eight c h =
       let n = base-table.refused-eight c st order s .0 h .0 in
-      let e = passed-is c st order s (passed-iff (base.testsOf c st (length s) order) (tests-numbered c st (length s) order) .1 n) in
-      e ∙ effect-eight c (ap (λ (o : basic.Outcome). basic.numberOf (o .answer)) (sym e) ∙ h)
+      let e = passed-is c st order s (passed-iff (storeTests c st (length s) order) (tests-numbered c st (length s) order) .1 n) in
+      e ∙ effect-eight c (ap (λ (o : basic.StoreOutcome). basic.storeNumber (o .answer)) (sym e) ∙ h)
 
 -- ---- every call
-
--- a call's tests, in their order
-abbrev pub testsOf : Call → State → List ℕ → List Float → List Test
-testsOf (any.base c) st order s = base.testsOf c st (length s) order
-testsOf (search diag radius lambda out) st order s = searchTests st (length s) order diag radius lambda (length out)
-
--- 8: an answer number is not finite, or the search's run ends at a place of refusal 8
-abbrev pub Breaks : Call → State → List ℕ → List Float → Type 0
-Breaks (any.base c) st order s = base-table.breaks c st order (load (st .n) s) ≡ true
-Breaks (search diag radius lambda out) st order s = (p : Place) × (table.ends st order diag radius lambda s out ≡ inr p)
-
--- and otherwise: the search's run ends by a stop rule
-abbrev pub Stands : Call → State → List ℕ → List Float → Type 0
-Stands (any.base c) st order s = base-table.breaks c st order (load (st .n) s) ≡ false
-Stands (search diag radius lambda out) st order s = (x : Stop) × (table.ends st order diag radius lambda s out ≡ inl x)
-
--- what is left by a call that is refused 8
-abbrev pub leftByEight : Call → State → List Float → Outcome
-leftByEight (any.base c) st s = ofBase (afterEight c st s)
-leftByEight (search diag radius lambda out) st s = ofSearch (ended (refused 8) (withHeld st held.Nothing) (lay (emptied (load (st .n) s))) out)
 
 -- LAW: 2 to 7
 pub refused-early : (c : Call) (st : State) (order : List ℕ) (s : List Float) (k : ℕ) → 0 < k → k < 8
@@ -162,16 +133,16 @@ answered-otherwise (any.base c) st order s = base-table.answered-otherwise c st 
 answered-otherwise (search diag radius lambda out) st order s = table.answered-otherwise st order diag radius lambda s out
 
 -- ---- work is +0 after every call that passes all checks before 8, answered or not
-base-work : (c : basic.Call) (st : State) (order : List ℕ) (s : List Float) → base.testedOf c st order s ≡ 0 → load (st .n) (basic.perform c st order s .store) .work ≡ zeros (st .n)
+base-work : (c : basic.StoreCall) (st : State) (order : List ℕ) (s : List Float) → base.testedOf c st order s ≡ 0 → load (st .n) (basic.performStore c st order s .store) .work ≡ zeros (st .n)
 unfolding leaving
 base-work c st order s e =
     let z = room-sized c st order s e in
-    ap (λ (o : basic.Outcome). load (st .n) (o .store) .work) (passed-is c st order s e) ∙ ap (λ (r : Room). r .work) (room-after c st order s z) ∙ ap zeros (load-shaped (st .n) s z .work-long)
+    ap (λ (o : basic.StoreOutcome). load (st .n) (o .store) .work) (passed-is c st order s e) ∙ ap (λ (r : Room). r .work) (room-after c st order s z) ∙ ap zeros (load-shaped (st .n) s z .work-long)
 
 -- LAW
 pub work-rests : (c : Call) (st : State) (order : List ℕ) (s : List Float) → NoneHold (testsOf c st order s) → load (st .n) (perform c st order s .store) .work ≡ zeros (st .n)
 unfolding perform
-work-rests (any.base c) st order s h = base-work c st order s (passed-iff (base.testsOf c st (length s) order) (tests-numbered c st (length s) order) .1 h)
+work-rests (any.base c) st order s h = base-work c st order s (passed-iff (storeTests c st (length s) order) (tests-numbered c st (length s) order) .1 h)
 work-rests (search diag radius lambda out) st order s h =
     let e = passed-iff (testsOf (search diag radius lambda out) st order s) refl .1 h in
     ap (λ (x : List Float). load (st .n) x .work) (as-zero diag radius lambda out st order s e) ∙ base-work (zero st) st order s (zero-tested diag radius lambda out st order s e)
@@ -179,11 +150,11 @@ work-rests (search diag radius lambda out) st order s h =
 -- LAW: a call settles exactly when it is a solve or a search and passes all checks before 8
 pub settles-when : (c : Call) (st : State) (order : List ℕ) (s : List Float) → (settling c st order s ≡ true) ↔ ((isSolve c ≡ true) × NoneHold (testsOf c st order s))
 settles-when (any.base c) st order s =
-    let ts = base.testsOf c st (length s) order in
+    let ts = storeTests c st (length s) order in
     let q = tests-numbered c st (length s) order in
     let k = base.testedOf c st order s in (
-      λ h. let w = and-eq-true-iff (basic.isSolve c) (eqb k 0) .0 (sym (base-settling c st order s) ∙ h) in (w .0, passed-iff ts q .0 (eqb-true k 0 (w .1))),
-      λ w. base-settling c st order s ∙ and-eq-true-iff (basic.isSolve c) (eqb k 0) .1 (w .0, eq-eqb k 0 (passed-iff ts q .1 (w .1))),
+      λ h. let w = and-eq-true-iff (basic.isStoreSolve c) (eqb k 0) .0 (sym (base-settling c st order s) ∙ h) in (w .0, passed-iff ts q .0 (eqb-true k 0 (w .1))),
+      λ w. base-settling c st order s ∙ and-eq-true-iff (basic.isStoreSolve c) (eqb k 0) .1 (w .0, eq-eqb k 0 (passed-iff ts q .1 (w .1))),
     )
 settles-when (search diag radius lambda out) st order s =
     let ts = testsOf (search diag radius lambda out) st order s in (

@@ -1,7 +1,7 @@
--- Demand 3: every public call that takes a state, those of `Calls` and the search, as one type, and what each does by the very definition that its
--- contract cites.
+-- Demand 3: the public calls that take a state, those of `Calls` and the search, as one type, and what each does by the very definition that its
+-- contract cites. The held calls on a store that is only read, and those through a reader, are tied to the held calls (`proofs/Ties.antt`).
 use Prim.Native.Nat.{ℕ}
-use mathlib.Core.Bool.{Bool, true, false, _&&_, _||_}
+use mathlib.Core.Bool.{Bool, true, _&&_, _||_}
 use mathlib.Core.List.{List}
 use lib.Dec.{eqb}
 use lib.Ieee.{Float}
@@ -14,23 +14,23 @@ use Rattle.search.specs.Search.{searchCall}
 use Rattle.search.specs.declared.LMParameter.{LMParameter}
 
 pub data Call : Type 0 where
-  base : basic.Call → Call
+  base : basic.StoreCall → Call
   search : (diag : List Float) (radius lambda : Float) (out : List Float) → Call
 
 -- an answer of any of them
 pub data AnyAnswer : Type 0 where
-  of-base : basic.Answer → AnyAnswer
+  of-base : basic.StoreAnswer → AnyAnswer
   found : Reply LMParameter → AnyAnswer
 
 -- the number that a call is refused by, 0 for an answer
 abbrev pub numberOf : AnyAnswer → ℕ
-numberOf (of-base a) = basic.numberOf a
+numberOf (of-base a) = basic.storeNumber a
 numberOf (found r) = replyNumber r
 
 abbrev pub Outcome : Type 0
 Outcome = OutcomeOf AnyAnswer
 
-abbrev pub ofBase : basic.Outcome → Outcome
+abbrev pub ofBase : basic.StoreOutcome → Outcome
 ofBase o = record { answer = of-base (o .answer); state = o .state; store = o .store; out = o .out }
 
 abbrev pub ofSearch : Ended LMParameter → Outcome
@@ -38,18 +38,18 @@ ofSearch e = record { answer = found (e .reply); state = e .state; store = e .st
 
 -- with a state, an order list and a store
 unfoldable pub perform : Call → State → List ℕ → List Float → Outcome
-perform (base c) st order s = ofBase (basic.perform c st order s)
+perform (base c) st order s = ofBase (basic.performStore c st order s)
 perform (search diag radius lambda out) st order s = ofSearch (searchCall st order diag radius lambda s out)
-
-abbrev pub isHeld : Call → Bool
-isHeld (base c) = basic.isHeld c
-isHeld (search diag radius lambda out) = false
 
 -- a solve or a search
 abbrev pub isSolve : Call → Bool
-isSolve (base c) = basic.isSolve c
+isSolve (base c) = basic.isStoreSolve c
 isSolve (search diag radius lambda out) = true
 
 -- that got past the input checks: answered, or refused 8
 abbrev pub settling : Call → State → List ℕ → List Float → Bool
 settling c st order s = let k = numberOf (perform c st order s .answer) in isSolve c && (eqb k 0 || eqb k 8)
+
+-- an outcome by its parts
+abbrev pub leftAs : AnyAnswer → State → List Float → List Float → Outcome
+leftAs a st s o = record { answer = a; state = st; store = s; out = o }

@@ -1,4 +1,11 @@
--- What the theorems on the demands speak of: the calls that take a state as one type, and runs of them.
-pub mod Calls
+-- What the statements of the demands cite beside the contracts' definitions. The calls on a problem as one type, and runs of them; demand 1's tests
+-- and what a refusal leaves; demand 3's likenesses.
 pub mod History
-pub mod Opened
+pub mod Calls
+pub mod Refusals
+pub mod Eight
+pub mod Factorings
+pub mod Workings
+pub mod Alike
+-- What only inner functions, laws and examples cite stands apart: nobody need believe it.
+pub mod inner

@@ -12,17 +12,18 @@ use lib.Ieee.{Float}
 use borrow.Author.Tests.{le-ltb, ltb-false, eqb-true, eqb-false, eq-eqb, ne-eqb, not-false}
 use Rattle.leaves.specs.Reply.{Reply, answered, refused}
 use Rattle.leaves.specs.Tests.{firstOf, outside}
-use Rattle.leaves.specs.Square.{Square, uppersOf, belowsOf, joined}
+use Rattle.leaves.specs.Square.{uppersOf, belowsOf, joined}
 use Rattle.leaves.proofs.Folds.{nonzero}
 use Rattle.leaves.proofs.Joined.{Tall, joined-columns, uppers-joined, belows-joined}
 use Rattle.leaves.proofs.Refusals.{passed-iff, call-refused, call-worked}
 use Rattle.leaves.proofs.Squares.{uppersOf-length, upper-long}
 use Rattle.eliminate.specs.Eliminate.{damping, heads, tails}
-use Rattle.eliminate.specs.Eliminated.{Eliminated, eliminated, eliminateTests, eliminateCall}
-use Rattle.eliminate.specs.Edges.{Eliminates}
+use Rattle.eliminate.specs.Eliminated.{Eliminated, eliminatedAs, eliminateTests, eliminateCall}
+use Rattle.eliminate.specs.inner.Edges.{Eliminates}
 use Rattle.eliminate.proofs.Settling.{tails-length}
 use Rattle.eliminate.proofs.Stairs.{damping-stepped, tails-tall}
-use Rattle.leaves.proofs.Insides.{neither, within}
+use Rattle.leaves.proofs.Insides.{neither}
+use Rattle.leaves.specs.inner.Squares.{Square}
 
 -- ---- what is known once the tests are passed
 -- n columns within their range
@@ -87,13 +88,13 @@ module _ (n : ℕ) (ds s bs l : List Float) where
   abbrev rows : List (List Float)
   rows = damping ds (uppersOf n s) bs .0
 
-  pub diag-refused : (c : ℕ) → c ≡ tests → (c ≡ 0 → ⊥) → eliminated (refused c) s bs l ≡ eliminateCall n ds s bs l
+  pub diag-refused : (c : ℕ) → c ≡ tests → (c ≡ 0 → ⊥) → eliminatedAs (refused c) s bs l ≡ eliminateCall n ds s bs l
   unfolding eliminateCall
-  diag-refused c e h = call-refused _ (λ k. eliminated (refused k) s bs l) _ c (sym e) (ne-eqb c 0 h)
+  diag-refused c e h = call-refused _ (λ k. eliminatedAs (refused k) s bs l) _ c (sym e) (ne-eqb c 0 h)
 
-  worked : tests ≡ 0 → eliminated (answered tt) (joined (uppersOf n s) (tails rows)) (damping ds (uppersOf n s) bs .1) (heads rows) ≡ eliminateCall n ds s bs l
+  worked : tests ≡ 0 → eliminatedAs (answered tt) (joined (uppersOf n s) (tails rows)) (damping ds (uppersOf n s) bs .1) (heads rows) ≡ eliminateCall n ds s bs l
   unfolding eliminateCall
-  worked e = call-worked _ (λ k. eliminated (refused k) s bs l) _ e
+  worked e = call-worked _ (λ k. eliminatedAs (refused k) s bs l) _ e
 
   -- the square that is left, from its two halves
   laid : (s′ bs′ l′ : List Float) → length s′ ≡ n * n → Eliminates n ds s s′ bs bs′ l′ → s′ ≡ joined (uppersOf n s) (tails rows)
@@ -101,7 +102,7 @@ module _ (n : ℕ) (ds s bs l : List Float) where
       sym (take-all (n * n) s′ (omega arith)) ∙ sym (joined-columns n n 0 s′) ∙ rw (e .upper, e .below)
 
   pub diag-worked : (c : ℕ) (s′ bs′ l′ : List Float) → c ≡ tests → c ≡ 0 → length s′ ≡ n * n → Eliminates n ds s s′ bs bs′ l′
-      → eliminated (answered tt) s′ bs′ l′ ≡ eliminateCall n ds s bs l
+      → eliminatedAs (answered tt) s′ bs′ l′ ≡ eliminateCall n ds s bs l
   diag-worked c s′ bs′ l′ t z w e = rw (laid s′ bs′ l′ w e, e .diagonal, e .right) (worked (sym t ∙ z))
 
   -- ---- and read again: R and L, each of its shape
@@ -125,7 +126,7 @@ module _ (n : ℕ) (ds s bs l : List Float) where
 
 -- LAW: what the call leaves where the slices fit, as the inner working has it
 pub eliminates : (n : ℕ) (ds s s′ bs bs′ l₀ l′ : List Float) {d : Reply (Unit {0})} → Square n s → 0 < n → length ds ≡ n → length bs ≡ n → length l₀ ≡ n
-    → eliminated d s′ bs′ l′ ≡ eliminateCall n ds s bs l₀ → Eliminates n ds s s′ bs bs′ l′
+    → eliminatedAs d s′ bs′ l′ ≡ eliminateCall n ds s bs l₀ → Eliminates n ds s s′ bs bs′ l′
 eliminates n ds s s′ bs bs′ l₀ l′ q p hd hb hl e =
     let f = fitted n (length s) (length ds) (length bs) (length l₀) (record { sizes = record { some = p; few = q .small }; cells = q .whole; scales = hd; right = hb; diagonal = hl }) in
     let w = e ∙ sym (worked n ds s bs l₀ f) in

@@ -11,7 +11,7 @@ use lib.Ieee.{Float, nan, binary64, mul, div, eq, lt}
 use Rattle.leaves.specs.Number.{plusZero, absOf}
 use Rattle.leaves.proofs.Folds.{front}
 use Rattle.eliminate.specs.Eliminate.{Rows, cons, lesser, byCot, byTan, givens, turned, left, turnedAll, leftAll, rotated}
-use Rattle.eliminate.specs.Edges.{upTo}
+use Rattle.eliminate.specs.inner.Edges.{upTo}
 use Rattle.eliminate.specs.declared.eliminate.Rotation.{Rotation}
 
 -- ---- the rotation, by its test

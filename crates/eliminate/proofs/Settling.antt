@@ -11,10 +11,11 @@ use lib.Seq.{drop-cons, drop-at, take-at, take-suc, take-suc-set, take-all, appe
 use lib.Ieee.{Float, nan, eq}
 use Rattle.leaves.specs.Number.{plusZero}
 use Rattle.leaves.specs.Triangle.{columns}
-use Rattle.leaves.specs.Square.{Square, zeros}
+use Rattle.leaves.specs.Square.{zeros}
 use Rattle.eliminate.specs.Eliminate.{Rows, cons, rotated, started, eliminated, damping, heads, tails}
-use Rattle.eliminate.specs.Edges.{edgesOf, abovesOf, upTo, ahead, Turns, Ends, Mirrors, Settles, Eliminates}
+use Rattle.eliminate.specs.inner.Edges.{edgesOf, abovesOf, upTo, ahead, Turns, Ends, Mirrors, Settles, Eliminates}
 use Rattle.eliminate.proofs.Triangular.{edgesOf-length, heads-length, belows-tails, uppers-by}
+use Rattle.leaves.specs.inner.Squares.{Square}
 
 -- ---- a row begun
 pub start-skipped : (n j : ℕ) (s bs : List Float) (d : Float) → eq d plusZero ≡ true

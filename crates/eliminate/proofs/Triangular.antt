@@ -10,12 +10,13 @@ use lib.Seq.{take-take, take-at, drop-at, drop-drop, length-take-le, getD-take, 
 use lib.Ieee.{Float, nan}
 use Rattle.leaves.specs.Triangle.{columns}
 use Rattle.leaves.proofs.Triangles.{column-at}
-use Rattle.leaves.specs.Square.{Square, uppersOf, belowsFrom}
+use Rattle.leaves.specs.Square.{uppersOf, belowsFrom}
 use Rattle.eliminate.specs.Eliminate.{heads, tails}
-use Rattle.eliminate.specs.Edges.{edgesFrom, abovesFrom, edgesOf, abovesOf}
-use Rattle.leaves.specs.Patch.{patch}
+use Rattle.eliminate.specs.inner.Edges.{edgesFrom, abovesFrom, edgesOf, abovesOf}
+use Rattle.leaves.specs.inner.Patch.{patch}
 use Rattle.leaves.proofs.Grids.{column-long, tail-read, tail-write}
 use Rattle.leaves.proofs.Squares.{columns-length, uppersOf-length, upper-at, column-end}
+use Rattle.leaves.specs.inner.Squares.{Square}
 
 -- ---- lists
 set-past : (a t : ℕ) (s : List Float) (v : Float) → a ≤ length s → set s (a + t) v ≡ take a s ++ set (drop a s) t v

@@ -1,6 +1,6 @@
 -- 01, module 5: a diagonal is eliminated against R by rotations, and the damped solve. R is taken by rows from its diagonal on, and
 -- so is Lᵀ: row k of Lᵀ is the diagonal entry of L at place k and what stands under it.
-use Prim.Native.Nat.{ℕ, zero, suc, _-_}
+use Prim.Native.Nat.{ℕ, suc, _-_}
 use mathlib.Core.Bool.{true, false, cond}
 use mathlib.Core.List.{List, [], _∷_, map}
 use lib.IntN.{negsuc}

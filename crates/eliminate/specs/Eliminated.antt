@@ -17,8 +17,8 @@ pub record Eliminated : Type 0 where
   pub rhs : List Float
   pub ldiag : List Float
 
-abbrev pub eliminated : Reply (Unit {0}) → List Float → List Float → List Float → Eliminated
-eliminated a s b l = record { reply = a; square = s; rhs = b; ldiag = l }
+abbrev pub eliminatedAs : Reply (Unit {0}) → List Float → List Float → List Float → Eliminated
+eliminatedAs a s b l = record { reply = a; square = s; rhs = b; ldiag = l }
 
 -- 2 for n outside its range, where m is none of its sizes; 3 where a slice is not of its exact length
 abbrev pub eliminateTests : ℕ → ℕ → ℕ → ℕ → ℕ → List Test
@@ -34,6 +34,6 @@ eliminateCall n ds square rhs ldiag =
     let r = uppersOf n square in
     let l = damping ds r rhs in
     elim (eqb c 0) [
-      | true ↦ eliminated (answered tt) (joined r (tails (l .0))) (l .1) (heads (l .0))
-      | false ↦ eliminated (refused c) square rhs ldiag
+      | true ↦ eliminatedAs (answered tt) (joined r (tails (l .0))) (l .1) (heads (l .0))
+      | false ↦ eliminatedAs (refused c) square rhs ldiag
     ]

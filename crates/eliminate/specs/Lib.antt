@@ -1,5 +1,5 @@
--- What the contracts of `eliminate` cite: module 5 of document 01.
-pub mod Eliminate
+-- What the public contract of `eliminate` cites, the call first: module 5 of document 01.
 pub mod Eliminated
-pub mod Edges
-pub mod Opened
+pub mod Eliminate
+-- What only inner functions, laws and examples cite stands apart: nobody need believe it.
+pub mod inner

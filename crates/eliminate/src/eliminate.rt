@@ -8,9 +8,9 @@ ghost use mathlib.Core.Path.{_≡_};
 ghost use Prim.Native.Nat.{_+_, _*_, _-_, _<_, _≤_};
 ghost use lib.ListN.{length, drop};
 ghost use Rattle.leaves.specs.Number.{plusZero};
-ghost use Rattle.leaves.specs.Square.{Square};
 ghost use Rattle.eliminate.specs.Eliminate.{lesser, givens, turnedAll, leftAll, started, eliminated, heads};
-ghost use Rattle.eliminate.specs.Edges.{edgesOf, upTo, ahead, TurnsPlace, Ahead, Turns, Ends, MirrorsColumn, Mirrors, Settles, Eliminates};
+ghost use Rattle.eliminate.specs.inner.Edges.{edgesOf, upTo, ahead, TurnsPlace, Ahead, Turns, Ends, MirrorsColumn, Mirrors, Settles, Eliminates};
+ghost use Rattle.leaves.specs.inner.Squares.{Square};
 
 pub struct Rotation {
     pub sin: f64,

@@ -3,10 +3,9 @@ use crate::eliminate::eliminate;
 use leaves::reply::Done;
 use leaves::sizes::outside;
 ghost use mathlib.Core.Path.{_≡_};
-ghost use lib.ListN.{length};
 ghost use Rattle.leaves.specs.Reply.{doneOf};
 ghost use Rattle.leaves.specs.Tests.{firstOf};
-ghost use Rattle.eliminate.specs.Eliminated.{eliminated, eliminateTests, eliminateCall};
+ghost use Rattle.eliminate.specs.Eliminated.{eliminatedAs, eliminateTests, eliminateCall};
 
 fn check(n: usize, square: usize, ds: usize, rhs: usize, ldiag: usize) -> u8
     ensures { λ r. ⌜ r ≡ firstOf (eliminateTests n square ds rhs ldiag) ⌝ }
@@ -41,7 +40,7 @@ pub fn eliminate_diag(
     rhs: &mut [f64],
     ldiag: &mut [f64],
 ) -> Done
-    ensures { λ r. ⌜ eliminated (doneOf r) (now (square .exit)) (now (rhs .exit)) (now (ldiag .exit)) ≡ eliminateCall n (now (ds .entry)) (now (square .entry)) (now (rhs .entry)) (now (ldiag .entry)) ⌝ }
+    ensures { λ r. ⌜ eliminatedAs (doneOf r) (now (square .exit)) (now (rhs .exit)) (now (ldiag .exit)) ≡ eliminateCall n (now (ds .entry)) (now (square .entry)) (now (rhs .entry)) (now (ldiag .entry)) ⌝ }
 {
     let c = check(n, square.len(), ds.len(), rhs.len(), ldiag.len());
     if c != 0 {

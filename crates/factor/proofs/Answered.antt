@@ -13,7 +13,7 @@ use Rattle.leaves.specs.Norm.{norm}
 use Rattle.leaves.specs.Triangle.{columns}
 use Rattle.leaves.proofs.Replies.{refused-answered}
 use Rattle.factor.specs.State.{storeNeed, benchNeed}
-use Rattle.factor.specs.Room.{Room, Shaped, load, lay}
+use Rattle.factor.specs.Room.{Room, load, lay}
 use Rattle.leaves.specs.Square.{zeros}
 use Rattle.leaves.specs.Tests.{firstOf, allFinite}
 use Rattle.factor.specs.Tests.{distinctBelow, isPermutation}
@@ -28,6 +28,7 @@ use Rattle.factor.proofs.Workings.{norms-long}
 use Rattle.reduce.proofs.Fitting.{Fits, reduction-fits}
 use Rattle.factor.proofs.Shapes.{factored-shaped}
 use Rattle.factor.proofs.Swaps.{reduction-permutes}
+use Rattle.factor.specs.inner.Rooms.{Shaped}
 
 -- ---- an answer comes of the first of two outcomes where the second is a refusal
 by-first : (b : Bool) (x y : Factored) (k : ℕ) → y .reply ≡ refused k → (let z : Factored = elim b [ true ↦ x | false ↦ y ] in z .reply ≡ answered tt → (b ≡ true) × (z ≡ x))

@@ -9,11 +9,12 @@ use lib.ListN.{length, getD, take, drop, set, length-take, length-drop, drop-of-
 use lib.Seq.{drop-cons, drop-drop, take-take, take-suc, take-at, drop-at, set-at, getD-take, append-snoc, length-take-le}
 use lib.Ieee.{Float, nan, binary64, sub, div}
 use Rattle.leaves.specs.Vector.{dotOf}
-use Rattle.leaves.specs.Square.{Square, belowsOf, zeros}
+use Rattle.leaves.specs.Square.{belowsOf, zeros}
 use Rattle.factor.specs.Solve.{rank, padded, backward, dampedSolved}
-use Rattle.leaves.proofs.Grids.{drop-take}
+use Rattle.leaves.proofs.Splices.{drop-take}
 use Rattle.leaves.proofs.Squares.{below-at}
 use Rattle.factor.proofs.Solves.{rank-most, cleared-take, cleared-drop}
+use Rattle.leaves.specs.inner.Squares.{Square}
 
 -- what is lent of the column under the diagonal
 module _ (n : ℕ) (s : List Float) (q : Square n s) (j : ℕ) (h : j < n) where
@@ -33,7 +34,7 @@ module _ (n : ℕ) (s : List Float) (q : Square n s) (j : ℕ) (h : j < n) where
       ≡ set w j (div binary64 (sub binary64 (getD w j nan) (dotOf (take (full - suc j) (getD (belowsOf n s) j [])) (take (full - suc j) (drop (suc j) w)))) d)
   back-law full w x d l e = rw (e, below-part full l, add-one)
 
-back-length : (ds : List Float) (ls : List (List Float)) (bs : List Float) → length ds ≡ length bs → length ls ≡ length bs → length (backward ds ls bs) ≡ length bs
+pub back-length : (ds : List Float) (ls : List (List Float)) (bs : List Float) → length ds ≡ length bs → length ls ≡ length bs → length (backward ds ls bs) ≡ length bs
 unfolding backward
 back-length [] ls bs p q = p
 back-length (d ∷ ds) [] bs p q = q

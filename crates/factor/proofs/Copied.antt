@@ -12,13 +12,14 @@ use Rattle.leaves.specs.Tests.{firstOf}
 use Rattle.leaves.proofs.Squares.{diagonal-length}
 use Rattle.leaves.proofs.Refusals.{call-worked}
 use Rattle.factor.specs.State.{storeNeed}
-use Rattle.factor.specs.Room.{Sized, load, lay, rested}
+use Rattle.factor.specs.Room.{load, lay, rested}
 use Rattle.factor.specs.Tests.{tested}
 use Rattle.factor.specs.Outcome.{Read, read, writtenIf}
 use Rattle.factor.specs.Parts.{qtbIn, normsIn, diagonalIn, restIn}
 use Rattle.factor.proofs.Layouts.{load-shaped}
 use Rattle.leaves.proofs.Insides.{Inside, within, one-row}
 use Rattle.factor.proofs.Lends.{lent-passed, written-whole}
+use Rattle.factor.specs.inner.Rooms.{Sized}
 
 -- ---- a working's tests are passed where its caller's are
 pub tests-passed : (m n : ℕ) (store : List Float) (shortest : ℕ) → Inside m n → Sized n store → n ≤ shortest → tested m n store shortest ≡ 0

@@ -9,18 +9,19 @@ use lib.Seq.{take-at}
 use lib.Ieee.{Float}
 use Rattle.leaves.specs.Number.{plusZero}
 use Rattle.leaves.specs.Reply.{Reply}
-use Rattle.factor.specs.Room.{Room, Sized, Shaped, part, load, lay, leaving, withPart, emptied}
+use Rattle.factor.specs.Room.{Room, part, load, lay, leaving, emptied}
 use Rattle.leaves.specs.Square.{uppersOf, belowsOf, cleared}
 use Rattle.leaves.specs.Tests.{allFinite}
 use Rattle.factor.specs.Solve.{scatter, gather, dampedSolved}
 use Rattle.eliminate.specs.Eliminate.{Rows, damping, heads, tails}
-use Rattle.eliminate.specs.Eliminated.{eliminated, eliminateCall}
-use Rattle.eliminate.specs.Edges.{Eliminates}
+use Rattle.eliminate.specs.Eliminated.{eliminatedAs, eliminateCall}
+use Rattle.eliminate.specs.inner.Edges.{Eliminates}
 use Rattle.eliminate.proofs.Lent.{eliminates}
-use Rattle.factor.specs.Solves.{dampedRoom, dampedStep}
+use Rattle.factor.specs.Solves.{dampedRoom, dampedNumbers}
 use Rattle.factor.specs.PivotOrder.{lowered}
 use Rattle.factor.proofs.Layouts.{square-upper, square-of, laid, load-shaped, leaving-shaped, load-lay}
 use Rattle.factor.proofs.Lent.{withSquare, square-lent, square-leaving}
+use Rattle.factor.specs.inner.Rooms.{Sized, Shaped, withPart}
 
 -- ---- a finite answer, and where it goes
 pub finite-of : {b : Bool} {w x : List Float} → b ≡ allFinite w → w ≡ x → b ≡ allFinite x
@@ -48,7 +49,7 @@ abbrev pub dampingOf : ℕ → List Float → List Float → Rows
 dampingOf n ds s = damping ds (load n s .upper) (load n s .qtb)
 
 module _ (n : ℕ) (ds s t w w′ l₀ l : List Float) {d : Reply (Unit {0})} (p : (0 < n) × Sized n s) (hd : length ds ≡ n) (hl : length l₀ ≡ n)
-    (e : length t ≡ length (take (n * n) s)) (q : w ≡ part n 0 s) (told : eliminated d t w′ l ≡ eliminateCall n ds (take (n * n) s) w l₀) where
+    (e : length t ≡ length (take (n * n) s)) (q : w ≡ part n 0 s) (told : eliminatedAs d t w′ l ≡ eliminateCall n ds (take (n * n) s) w l₀) where
   sized : Sized n s
   sized = p .1
 
@@ -88,7 +89,7 @@ module _ (n : ℕ) (ds s t w w′ l₀ l : List Float) {d : Reply (Unit {0})} (p
       ∙ ap (λ (x : List Float). withPart 2 x (withSquare (load n s .upper) (tails (dampingOf n ds s .0)) (load n s))) diagonal-is
 
   -- LAW: and the step
-  pub step-left : {x : List Float} → x ≡ dampedSolved l (belowsOf n (take (n * n) (t ++ drop (n * n) s))) w′ → x ≡ dampedStep (dampingOf n ds s)
+  pub step-left : {x : List Float} → x ≡ dampedSolved l (belowsOf n (take (n * n) (t ++ drop (n * n) s))) w′ → x ≡ dampedNumbers (dampingOf n ds s)
   step-left g =
       g ∙ ap (λ (y : List Float). dampedSolved l (belowsOf n y) w′) (take-at t (drop (n * n) s) (n * n) (e ∙ square-of n s sized .whole))
       ∙ ap (λ (y : List (List Float)). dampedSolved l y w′) below-is ∙ ap (λ (y : List Float). dampedSolved y (tails (dampingOf n ds s .0)) w′) diagonal-is
@@ -117,9 +118,9 @@ room-emptied n l s s′ z z′ e =
 
 -- ---- the damped solve with its diagonal in pivot order, laid out
 module _ (n : ℕ) (os : List ℕ) (diag s ds s′ w : List Float) (g : ds ≡ gather os diag)
-    (h : load n s′ ≡ dampedRoom (dampingOf n ds s) (load n s)) (k : w ≡ dampedStep (dampingOf n ds s)) where
-  step-as : w ≡ dampedStep (dampingOf n (gather os diag) s)
-  step-as = k ∙ ap (λ (x : List Float). dampedStep (dampingOf n x s)) g
+    (h : load n s′ ≡ dampedRoom (dampingOf n ds s) (load n s)) (k : w ≡ dampedNumbers (dampingOf n ds s)) where
+  step-as : w ≡ dampedNumbers (dampingOf n (gather os diag) s)
+  step-as = k ∙ ap (λ (x : List Float). dampedNumbers (dampingOf n x s)) g
 
   room-as : load n s′ ≡ dampedRoom (dampingOf n (gather os diag) s) (load n s)
   room-as = h ∙ ap (λ (x : List Float). dampedRoom (dampingOf n x s) (load n s)) g
@@ -127,10 +128,10 @@ module _ (n : ℕ) (os : List ℕ) (diag s ds s′ w : List Float) (g : ds ≡ g
   pub damped-store : s′ ≡ lay (dampedRoom (dampingOf n (gather os diag) s) (load n s))
   damped-store = laid n s′ room-as
 
-  pub damped-out : (out : List Float) {out′ : List Float} → out′ ≡ scatter os w out → out′ ≡ scatter os (dampedStep (dampingOf n (gather os diag) s)) out
+  pub damped-out : (out : List Float) {out′ : List Float} → out′ ≡ scatter os w out → out′ ≡ scatter os (dampedNumbers (dampingOf n (gather os diag) s)) out
   damped-out out e = scattered os out e step-as
 
-  pub damped-finite : {b : Bool} → b ≡ allFinite w → b ≡ allFinite (dampedStep (dampingOf n (gather os diag) s))
+  pub damped-finite : {b : Bool} → b ≡ allFinite w → b ≡ allFinite (dampedNumbers (dampingOf n (gather os diag) s))
   damped-finite e = finite-of e step-as
 
   pub damped-emptied : {s″ : List Float} → Sized n s → Sized n s′ → s″ ≡ lay (emptied (load n s′)) → s″ ≡ lay (emptied (load n s))

@@ -12,7 +12,7 @@ use Rattle.factor.specs.Solves.{zeroCall}
 use Rattle.factor.specs.HeldCalls.{solveCall}
 use Rattle.factor.specs.Outcome.{Ended}
 use Rattle.factor.specs.PivotOrder.{zeroIn, dampedIn, productIn, fullRank, emptyIn}
-use Rattle.factor.specs.Opened.{opened}
+use Rattle.factor.specs.inner.Opened.{opened}
 
 -- whole numbers
 abbrev w : ℕ → Float

@@ -10,7 +10,7 @@ use lib.Ieee.{Float}
 use borrow.Author.Tests.{ne-eqb}
 use Rattle.leaves.specs.Reply.{answered, refused}
 use Rattle.factor.specs.State.{isEmpty, isNothing}
-use Rattle.factor.specs.Room.{Room, Sized, part, load, lay, rested}
+use Rattle.factor.specs.Room.{Room, part, load, lay, rested}
 use Rattle.leaves.specs.Square.{uppersOf, belowsOf, zeros}
 use Rattle.leaves.specs.Tests.{Test, firstOf, allFinite}
 use Rattle.factor.specs.Tests.{roomTests, heldTest, finiteTest, solveTests}
@@ -25,6 +25,7 @@ use Rattle.factor.proofs.Layouts.{square-upper, square-below, load-shap
 use Rattle.factor.proofs.Orders.{permutation-below}
 use Rattle.factor.proofs.Passed.{Ordered, solve-passed, room-passed, passed-sized}
 use Rattle.leaves.proofs.Refusals.{numbered, passed-iff, none-of-both, test-met, test-passed, went-on, call-refused, call-worked}
+use Rattle.factor.specs.inner.Rooms.{Sized}
 
 -- ---- on the lent square and the copied parts
 module _ (n : ℕ) (s : List Float) where

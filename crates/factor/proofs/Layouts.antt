@@ -7,12 +7,13 @@ use lib.ListN.{length, getD, take, drop, take-append-drop, length-replicate}
 use lib.Seq.{take-at, length-take-le}
 use lib.Ieee.{Float}
 use Rattle.leaves.specs.Number.{plusZero}
-use Rattle.leaves.specs.Triangle.{columns}
-use Rattle.factor.specs.Room.{Room, Sized, Shaped, part, load, lay, leaving, rested, emptied}
-use Rattle.leaves.specs.Square.{Square, uppersFrom, belowsFrom, uppersOf, belowsOf, joined, zeros, cleared}
+use Rattle.factor.specs.Room.{Room, part, load, lay, leaving, rested, emptied}
+use Rattle.leaves.specs.Square.{uppersFrom, belowsFrom, uppersOf, belowsOf, joined, zeros, cleared}
 use Rattle.leaves.proofs.Splices.{part-long, part-rest, drop-past}
 use Rattle.leaves.proofs.Squares.{uppersOf-length, belowsOf-length, upper-long, below-long}
 use Rattle.leaves.proofs.Joined.{Tall, belows-joined, cleared-tall, cleared-wide, columns-front, joined-columns, joined-long, uppers-joined}
+use Rattle.leaves.specs.inner.Squares.{Square}
+use Rattle.factor.specs.inner.Rooms.{Sized, Shaped}
 
 -- ---- columns are of the numbers that they take, and of no other
 

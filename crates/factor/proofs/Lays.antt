@@ -15,7 +15,7 @@ use Rattle.leaves.specs.Number.{plusZero, isFinite}
 use Rattle.leaves.specs.Square.{joined, zeros}
 use Rattle.leaves.specs.Tests.{allFinite}
 use Rattle.factor.specs.Factoring.{upperColumn, uppers, noLower, transformed, allFiniteIn}
-use Rattle.leaves.specs.Patch.{patch}
+use Rattle.leaves.specs.inner.Patch.{patch}
 use Rattle.leaves.proofs.Triangles.{column-fits}
 use Rattle.leaves.proofs.Grids.{part-long}
 use Rattle.leaves.proofs.Overs.{append-nil, over, over-chunk}

@@ -9,10 +9,10 @@ use lib.Ieee.{Float}
 use borrow.Author.Tests.{ne-eqb}
 use Rattle.leaves.specs.Reply.{answered, refused}
 use Rattle.leaves.proofs.Refusals.{call-refused, call-worked}
-use Rattle.factor.specs.Room.{Sized}
 use Rattle.factor.specs.Tests.{tested}
 use Rattle.factor.specs.Outcome.{written, read, writtenIf}
 use Rattle.factor.proofs.Passed.{Fit, sizes-passed, fit-sized}
+use Rattle.factor.specs.inner.Rooms.{Sized}
 
 -- ---- what the tests tell
 pub tested-at : (m n : ℕ) (store : List Float) {c j k : ℕ} → c ≡ tested m n store j → j ≡ k → c ≡ tested m n store k

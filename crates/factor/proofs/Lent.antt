@@ -16,12 +16,14 @@ use borrow.Author.Tests.{eq-eqb, ne-eqb}
 use Rattle.leaves.specs.Number.{plusZero}
 use Rattle.leaves.specs.Triangle.{columns}
 use Rattle.leaves.proofs.Triangles.{column-fits}
-use Rattle.factor.specs.Room.{Room, Sized, Shaped, part, load, leaving, withPart, rested, emptied}
-use Rattle.leaves.specs.Square.{Square, uppersOf, belowsOf, zeros, cleared}
+use Rattle.factor.specs.Room.{Room, part, load, leaving, rested, emptied}
+use Rattle.leaves.specs.Square.{uppersOf, belowsOf, zeros, cleared}
 use Rattle.leaves.proofs.Splices.{splice, splice-twice, lent, filled, part-long, drop-front, drop-take, splice-length, splice-take, splice-before, splice-at, splice-drop}
 use Rattle.leaves.proofs.Squares.{uppersOf-length, belowsOf-length, column-end, upper-at, below-at}
 use Rattle.leaves.proofs.Joined.{columns-same}
 use Rattle.factor.proofs.Layouts.{square-upper, square-of}
+use Rattle.leaves.specs.inner.Squares.{Square}
+use Rattle.factor.specs.inner.Rooms.{Sized, Shaped, withPart}
 
 -- ---- a part that was lent
 
@@ -141,8 +143,7 @@ module _ (n : ℕ) (s : List Float) (q : Square n s) (k : ℕ) (h : k < n) (y : 
 
   end-new : drop (suc k) (take n (drop (k * n) endPut)) ≡ y
   end-new =
-      let e : n ≡ suc k + (n - suc k) = omega arith in
-      ap (λ (m : ℕ). drop (suc k) (take m (drop (k * n) endPut))) e ∙ drop-take (suc k) (n - suc k) (drop (k * n) endPut)
+      drop-take (suc k) n (drop (k * n) endPut)
       ∙ ap (λ (x : List Float). take (n - suc k) x) (drop-drop (suc k) (k * n) endPut)
       ∙ splice-at (k * n + suc k) (k * n + n) y s as-long (column-end n s q k h) (n - suc k) l
 

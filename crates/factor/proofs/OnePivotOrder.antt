@@ -10,7 +10,7 @@ use denote.Triple.Clauses.{AtExit}
 use Rattle.leaves.specs.Reply.{doneOf}
 use Rattle.leaves.specs.declared.reply.Done.{Done}
 use Rattle.leaves.proofs.Replies.{doneOf-same}
-use Rattle.factor.specs.Outcome.{Left, left}
+use Rattle.factor.specs.Outcome.{Left, leftIn}
 use Rattle.factor.specs.declared.answer.Truth.{Truth}
 use Rattle.factor.proofs.Answers.{truthOf-same, read-same}
 use Rattle.factor.proofs.pivot_order.zero.{signature as zero-signature}
@@ -57,7 +57,7 @@ pub empty-one-outcome : (κs : Lfts 1) (a : ArgsD empty-signature κs) (r₁ r�
 empty-one-outcome κs a r₁ r₂ s₁ s₂ p q = read-same r₁ r₂ (p ∙ sym q)
 
 -- ---- and the store
-left-same : (r t : Done) {s u o p : List Float} → left (doneOf r) s o ≡ left (doneOf t) u p → (r ≡ t) × (s ≡ u) × (o ≡ p)
+left-same : (r t : Done) {s u o p : List Float} → leftIn (doneOf r) s o ≡ leftIn (doneOf t) u p → (r ≡ t) × (s ≡ u) × (o ≡ p)
 left-same r t e = (doneOf-same r t (ap (λ (x : Left). x .reply) e), ap (λ (x : Left). x .store) e, ap (λ (x : Left). x .out) e)
 
 pub damped-one-outcome : (κs : Lfts 3) (a : ArgsD damped-signature κs) (r₁ r₂ : Done) (s₁ s₂ : AtExit (endedOf 3 damped-kinds.ps damped-kinds.r) κs)

@@ -12,12 +12,13 @@ use borrow.Author.Tests.{ltb-false, not-false}
 use Rattle.leaves.specs.Number.{isFinite}
 use Rattle.factor.specs.State.{isEmpty, storeNeed, benchNeed}
 use Rattle.leaves.specs.Tests.{outside, firstOf, allFinite}
-use Rattle.factor.specs.Room.{Sized}
 use Rattle.factor.specs.Tests.{isPermutation, sizeTests, tested, roomTests, orderTest, solveTests}
 use Rattle.factor.specs.Factoring.{factorTests}
 use Rattle.factor.specs.declared.state.State.{State}
-use Rattle.leaves.proofs.Refusals.{NoneHold, passed-iff, none-of-both}
+use Rattle.leaves.proofs.Refusals.{passed-iff, none-of-both}
 use Rattle.leaves.proofs.Insides.{neither, Inside, inside}
+use Rattle.factor.specs.inner.Rooms.{Sized}
+use Rattle.leaves.specs.Refusing.{NoneHold}
 
 -- ---- what every working on lent numbers tests
 pub record Fit (m n : ℕ) (store shortest : ℕ) : Type 0 where

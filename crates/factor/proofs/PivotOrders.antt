@@ -14,9 +14,9 @@ use Rattle.eliminate.specs.Eliminate.{Rows, damping}
 use Rattle.factor.specs.Room.{load, lay, emptied}
 use Rattle.factor.specs.Tests.{tested}
 use Rattle.factor.specs.Solve.{zeroSolved, nonSingular}
-use Rattle.factor.specs.Solves.{dampedStep}
+use Rattle.factor.specs.Solves.{dampedNumbers}
 use Rattle.factor.specs.Held.{heldSolved, heldProduct}
-use Rattle.factor.specs.Outcome.{written, read, left}
+use Rattle.factor.specs.Outcome.{written, read, leftIn}
 use Rattle.factor.specs.PivotOrder.{lowered, zeroIn, dampedIn, heldZeroIn, heldDampedIn, productIn, fullRank, emptyIn}
 use Rattle.factor.specs.declared.state.Held.{Held}
 use Rattle.factor.specs.declared.state.Held.the-variants as held
@@ -38,17 +38,17 @@ productOf n store = heldProduct held.Zero (load n store)
 
 -- ---- the damped solve
 module _ (n : ℕ) (ds store w : List Float) {c : ℕ} (e : c ≡ tested 1 n store (min (length ds) (length w))) where
-  pub damped-refused : (c ≡ 0 → ⊥) → left (refused c) store w ≡ dampedIn n ds store w
+  pub damped-refused : (c ≡ 0 → ⊥) → leftIn (refused c) store w ≡ dampedIn n ds store w
   unfolding dampedIn
-  damped-refused h = call-refused _ (λ (k : ℕ). left (refused k) store w) _ c (sym e) (ne-eqb c 0 h)
+  damped-refused h = call-refused _ (λ (k : ℕ). leftIn (refused k) store w) _ c (sym e) (ne-eqb c 0 h)
 
-  pub damped-written : c ≡ 0 → {s x : List Float} → load n s ≡ lowered (rowsOf n ds store) (load n store) → x ≡ dampedStep (rowsOf n ds store)
-      → length x ≡ length (take n w) → left (answered tt) s (x ++ drop n w) ≡ dampedIn n ds store w
+  pub damped-written : c ≡ 0 → {s x : List Float} → load n s ≡ lowered (rowsOf n ds store) (load n store) → x ≡ dampedNumbers (rowsOf n ds store)
+      → length x ≡ length (take n w) → leftIn (answered tt) s (x ++ drop n w) ≡ dampedIn n ds store w
   unfolding dampedIn
   damped-written z {s} {x} f g l =
-      ap (λ (t : List Float). left (answered tt) t (x ++ drop n w)) (laid n s f)
-      ∙ ap (λ (o : List Float). left (answered tt) (lay (lowered (rowsOf n ds store) (load n store))) o) (written-first n (dampedStep (rowsOf n ds store)) w g (l ∙ both-long 1 n store ds w e z .1))
-      ∙ call-worked _ (λ (k : ℕ). left (refused k) store w) _ (sym e ∙ z)
+      ap (λ (t : List Float). leftIn (answered tt) t (x ++ drop n w)) (laid n s f)
+      ∙ ap (λ (o : List Float). leftIn (answered tt) (lay (lowered (rowsOf n ds store) (load n store))) o) (written-first n (dampedNumbers (rowsOf n ds store)) w g (l ∙ both-long 1 n store ds w e z .1))
+      ∙ call-worked _ (λ (k : ℕ). leftIn (refused k) store w) _ (sym e ∙ z)
 
 -- ---- the rank, of the square that is lent
 pub full-rank-refused : (m n : ℕ) (store : List Float) {c : ℕ} → c ≡ tested m n store n → (c ≡ 0 → ⊥) → refused c ≡ fullRank m n store
@@ -79,9 +79,9 @@ module _ (n : ℕ) (store w : List Float) (z : tested 1 n store (length w) ≡ 0
   product-in-passed = lent-passed 1 n store w (productOf n store) z
 
 pub damped-in-passed : (n : ℕ) (ds store w : List Float) → tested 1 n store (min (length ds) (length w)) ≡ 0
-    → dampedIn n ds store w ≡ left (answered tt) (lay (lowered (rowsOf n ds store) (load n store))) (written (dampedStep (rowsOf n ds store)) w)
+    → dampedIn n ds store w ≡ leftIn (answered tt) (lay (lowered (rowsOf n ds store) (load n store))) (written (dampedNumbers (rowsOf n ds store)) w)
 unfolding dampedIn
-damped-in-passed n ds store w z = sym (call-worked _ (λ (k : ℕ). left (refused k) store w) _ z)
+damped-in-passed n ds store w z = sym (call-worked _ (λ (k : ℕ). leftIn (refused k) store w) _ z)
 
 pub full-rank-passed : (m n : ℕ) (store : List Float) → tested m n store n ≡ 0 → fullRank m n store ≡ answered (nonSingular m n (load n store .upper))
 unfolding fullRank

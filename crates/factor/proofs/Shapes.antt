@@ -8,13 +8,13 @@ use lib.ListN.{length, getD, length-replicate}
 use lib.Ieee.{Float}
 use Rattle.leaves.specs.Number.{plusZero}
 use Rattle.leaves.specs.Triangle.{columns}
-use Rattle.factor.specs.Room.{Shaped}
 use Rattle.reduce.specs.Reduction.{Reduction, reduction-of}
 use Rattle.factor.specs.Factoring.{uppers, noLower, factoredRoom}
-use Rattle.factor.specs.Worked.{SquareLong}
+use Rattle.factor.specs.inner.Worked.{SquareLong}
 use Rattle.factor.proofs.Lays.{column-size, whole-long}
 use Rattle.factor.proofs.Stores.{transformed-long}
 use Rattle.reduce.proofs.Fitting.{Fits, reduction-fits}
+use Rattle.factor.specs.inner.Rooms.{Shaped}
 
 -- ---- the room that it leaves
 uppers-wide : (m k : ℕ) (cs : List (List Float)) (ds : List Float) → length cs ≡ length ds → length (uppers m k cs ds) ≡ length cs

@@ -15,10 +15,11 @@ use Rattle.leaves.specs.Number.{plusZero}
 use Rattle.leaves.specs.Reply.{Reply}
 use Rattle.leaves.specs.Triangle.{columns, solvePlace, solveDown, solveUpper}
 use Rattle.leaves.proofs.Triangles.{column-at, solved}
-use Rattle.leaves.specs.Square.{Square, uppersOf, diagonal, zeros}
+use Rattle.leaves.specs.Square.{uppersOf, diagonal, zeros}
 use Rattle.factor.specs.Solve.{rank, noZero, nonSingular, scatter, gather, padded, zeroSolved}
 use Rattle.leaves.proofs.Fronts.{map-at}
 use Rattle.leaves.proofs.Squares.{diagonal-length, uppersOf-length, upper-at}
+use Rattle.leaves.specs.inner.Squares.{Square}
 
 -- ---- the first `top` of R's diagonal
 pub top-long : (n top : ℕ) (s : List Float) → top ≤ n → length (take top (diagonal (uppersOf n s))) ≡ top

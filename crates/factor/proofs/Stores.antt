@@ -9,7 +9,7 @@ use lib.Ieee.{Float}
 use Rattle.leaves.specs.Number.{plusZero}
 use Rattle.leaves.specs.Square.{zeros}
 use Rattle.factor.specs.Factoring.{transformed}
-use Rattle.leaves.specs.Patch.{patch}
+use Rattle.leaves.specs.inner.Patch.{patch}
 use Rattle.leaves.proofs.Grids.{part-long}
 
 -- ---- the store, part after part

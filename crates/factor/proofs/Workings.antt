@@ -18,9 +18,9 @@ use Rattle.factor.specs.Room.{lay}
 use Rattle.leaves.specs.Tests.{outside, allFinite}
 use Rattle.reduce.specs.Reduction.{Reduction, reduction-of}
 use Rattle.factor.specs.Factoring.{uppers, noLower, transformed, factoredRoom, finiteRoom, factorWorked}
-use Rattle.reduce.specs.Bench.{grid, Benched, Reduces}
-use Rattle.reduce.specs.Reduced.{reduced, reduceCall}
-use Rattle.factor.specs.Worked.{outcome, SquareLong}
+use Rattle.reduce.specs.inner.Bench.{grid, Benched, Reduces}
+use Rattle.reduce.specs.Reduced.{reducedAs, reduceCall}
+use Rattle.factor.specs.inner.Worked.{outcome, SquareLong}
 use Rattle.leaves.proofs.Squares.{columns-length}
 use Rattle.leaves.proofs.Joined.{columns-front}
 use Rattle.leaves.proofs.Overs.{lent-long}
@@ -117,7 +117,7 @@ module _ (m n : ℕ) (jac res store : List Float) (sl : SquareLong m n (reductio
 -- the norms in the store, r_diag in a room of 16
 pub store-reduced : (m n : ℕ) (jac res store room v d b₀ b : List Float) (o₀ o : List ℕ) (w : ℕ) {r : Reply (Unit {0})} → Benched m n b₀ → outside m n ≡ false
     → length jac ≡ m * n → length res ≡ m → n * n + 4 * n ≤ length store → length o₀ ≡ n → room ≡ replicate 16 plusZero → w ≡ n
-    → reduced r v d o b ≡ reduceCall m n jac res (take w (drop (n * n + n) store)) (take n room) o₀ b₀ → Reduces m n jac res v d o b
+    → reducedAs r v d o b ≡ reduceCall m n jac res (take w (drop (n * n + n) store)) (take n room) o₀ b₀ → Reduces m n jac res v d o b
 store-reduced m n jac res store room v d b₀ b o₀ o w hb ho hj hr hs lo er ew e =
     reduces m n jac res (take w (drop (n * n + n) store)) v (take n room) d o₀ o b₀ b ho hj hr (norms-part n store w ew hs) (lent-long n room er (hb .across)) lo
     (hb .whole ∙ omega (arith, mul-comm m n, suc-mul n m)) e

@@ -1,5 +1,4 @@
 -- 01, 'Lent room': the two held calls of `CholeskyFactor`, for a held zero solve (R itself) and a held damped one (L).
-use Prim.Native.Nat.{zero}
 use mathlib.Core.List.{List, [], _∷_, _++_, map}
 use lib.ListN.{length, take, getD}
 use lib.Ieee.{Float, nan, binary64, add, sub, mul, div, neg}

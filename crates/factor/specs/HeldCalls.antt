@@ -1,6 +1,6 @@
 -- 01, 'Refusal numbers' and 'Lent room': the held calls as their callers see them.
 use Prim.Native.Nat.{ℕ, _+_, min}
-use mathlib.Core.Bool.{true, false, not}
+use mathlib.Core.Bool.{true, false}
 use mathlib.Core.List.{List, [], _∷_, _++_}
 use lib.Dec.{eqb}
 use lib.ListN.{length, take}

@@ -1,16 +1,18 @@
--- What the contracts of `factor` cite: modules 2 to 5 of document 01, in its order.
-pub mod State
-pub mod Room
-pub mod Tests
-pub mod Outcome
+-- What the public contracts of `factor` cite: modules 2 to 5 of document 01. The calls first ..
 pub mod Factoring
-pub mod Solve
 pub mod Solves
-pub mod Held
 pub mod HeldCalls
 pub mod PivotOrder
 pub mod Parts
-pub mod AsFactored
+-- .. then what they test, work out and leave, and where it stands in the room.
+pub mod Tests
+pub mod Solve
+pub mod Held
+pub mod Outcome
 pub mod Answers
-pub mod Worked
-pub mod Opened
+pub mod State
+pub mod Room
+-- What the demands say of it.
+pub mod AsFactored
+-- What only inner functions, laws and examples cite stands apart: nobody need believe it.
+pub mod inner

@@ -48,8 +48,8 @@ pub record Left : Type 0 where
   pub store : List Float
   pub out : List Float
 
-abbrev pub left : Reply (Unit {0}) → List Float → List Float → Left
-left a s o = record { reply = a; store = s; out = o }
+abbrev pub leftIn : Reply (Unit {0}) → List Float → List Float → Left
+leftIn a s o = record { reply = a; store = s; out = o }
 
 -- a working that only reads the store: the first n of w written where the tests are passed
 abbrev pub writtenIf : ℕ → List Float → List Float → Read

@@ -13,8 +13,8 @@ use Rattle.factor.specs.Room.{Room, load, lay, emptied}
 use Rattle.factor.specs.Tests.{tested}
 use Rattle.factor.specs.Solve.{zeroSolved, nonSingular}
 use Rattle.factor.specs.Held.{heldSolved, heldProduct}
-use Rattle.factor.specs.Outcome.{Read, read, Left, left, written, writtenIf}
-use Rattle.factor.specs.Solves.{dampedStep}
+use Rattle.factor.specs.Outcome.{Read, read, Left, leftIn, written, writtenIf}
+use Rattle.factor.specs.Solves.{dampedNumbers}
 use Rattle.factor.specs.declared.state.Held.the-variants as held
 
 -- the zero solve
@@ -39,7 +39,7 @@ dampedIn n ds store w =
     let c = tested 1 n store (min (length ds) (length w)) in
     let r = load n store in
     let l = damping (take n ds) (r .upper) (r .qtb) in
-    elim (eqb c 0) [ true ↦ left (answered tt) (lay (lowered l r)) (written (dampedStep l) w) | false ↦ left (refused c) store w ]
+    elim (eqb c 0) [ true ↦ leftIn (answered tt) (lay (lowered l r)) (written (dampedNumbers l) w) | false ↦ leftIn (refused c) store w ]
 
 -- the held solve of a zero solve and of a damped one; w is the right side, and then the answer
 unfoldable pub heldZeroIn : ℕ → List Float → List Float → Read

@@ -1,14 +1,10 @@
 -- 01, 'Lent room and what stays in it': the store as a room. This file alone knows the layout: an n×n square, column by column,
 -- then qt_b, column norms, l_diag and work, then the surplus. Everywhere else a room is a record: R by columns, what stands below
 -- R's diagonal, and the vectors.
-use Prim.Native.Nat.{ℕ, suc, _+_, _-_, _*_, _≤_, _<_}
-use mathlib.Core.Path.{_≡_}
-use mathlib.Core.Bool.{cond}
-use mathlib.Core.List.{List, [], _++_}
-use lib.Dec.{eqb}
-use lib.ListN.{length, take, drop, getD}
+use Prim.Native.Nat.{ℕ, _+_, _*_}
+use mathlib.Core.List.{List, _++_}
+use lib.ListN.{length, take, drop}
 use lib.Ieee.{Float}
-use Rattle.leaves.specs.Triangle.{columns}
 use Rattle.leaves.specs.Square.{belowsOf, cleared, joined, uppersOf, zeros}
 
 -- column k of R is its k + 1 entries on and above the diagonal; column k of `below` the n - 1 - k entries under it
@@ -53,18 +49,6 @@ leaving below ldiag r = record {
   rest = r .rest;
 }
 
--- the room with other numbers in part k of the four that follow the square
-unfoldable pub withPart : ℕ → List Float → Room → Room
-withPart k y r = record {
-  upper = r .upper;
-  below = r .below;
-  qtb = cond (eqb k 0) y (r .qtb);
-  norms = cond (eqb k 1) y (r .norms);
-  ldiag = cond (eqb k 2) y (r .ldiag);
-  work = cond (eqb k 3) y (r .work);
-  rest = r .rest;
-}
-
 -- work +0 and nothing else changed
 abbrev pub rested : Room → Room
 rested r = leaving (r .below) (r .ldiag) r
@@ -72,19 +56,3 @@ rested r = leaving (r .below) (r .ldiag) r
 -- strict lower part and l_diag +0 too
 abbrev pub emptied : Room → Room
 emptied r = leaving (cleared (r .below)) (zeros (length (r .ldiag))) r
-
--- what each working needs of the store that is lent
-pub record Sized (n : ℕ) (s : List Float) : Type 0 where
-  pub small : n ≤ 16
-  pub fits : n * n + 4 * n ≤ length s
-
--- a room that a store of enough numbers can hold: the one that is loaded from it, and what the calls make of that
-pub record Shaped (n : ℕ) (r : Room) : Type 0 where
-  pub upper-wide : length (r .upper) ≡ n
-  pub upper-tall : (k : ℕ) → k < n → length (getD (r .upper) k []) ≡ suc k
-  pub below-wide : length (r .below) ≡ n
-  pub below-tall : (k : ℕ) → k < n → length (getD (r .below) k []) ≡ n - suc k
-  pub qtb-long : length (r .qtb) ≡ n
-  pub norms-long : length (r .norms) ≡ n
-  pub ldiag-long : length (r .ldiag) ≡ n
-  pub work-long : length (r .work) ≡ n

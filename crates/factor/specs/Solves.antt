@@ -1,6 +1,6 @@
 -- 01, modules 4 and 5, 'Refusal numbers' and 'Lent room': the solves as their callers see them.
 use Prim.Native.Nat.{ℕ, _+_, min}
-use mathlib.Core.Bool.{true, false, not}
+use mathlib.Core.Bool.{true, false}
 use mathlib.Core.List.{List, [], _∷_, _++_}
 use lib.Dec.{eqb}
 use lib.ListN.{length, take}
@@ -41,8 +41,8 @@ zeroCall st order store out =
 unfoldable pub dampedRoom : Rows → Room → Room
 dampedRoom l r = leaving (tails (l .0)) (heads (l .0)) r
 
-abbrev pub dampedStep : Rows → List Float
-dampedStep l = dampedSolved (heads (l .0)) (tails (l .0)) (l .1)
+abbrev pub dampedNumbers : Rows → List Float
+dampedNumbers l = dampedSolved (heads (l .0)) (tails (l .0)) (l .1)
 
 unfoldable pub dampedCall : State → List Float → List ℕ → List Float → List Float → Ended (Unit {0})
 dampedCall st diag order store out =
@@ -50,6 +50,6 @@ dampedCall st diag order store out =
     let r = load (st .n) store in
     let l = damping (gather (take (st .n) order) diag) (r .upper) (r .qtb) in
     elim (eqb c 0) [
-      | true ↦ solvedIf st order held.Damped (dampedRoom l r) r (dampedStep l) out
+      | true ↦ solvedIf st order held.Damped (dampedRoom l r) r (dampedNumbers l) out
       | false ↦ ended (refused c) st store out
     ]

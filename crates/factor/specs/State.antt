@@ -17,10 +17,6 @@ stateOf m n h = record { m = m; n = n; held = h }
 abbrev pub withHeld : State → Held → State
 withHeld st h = record { m = st .m; n = st .n; held = h }
 
--- how many columns are in use
-abbrev pub cols : State → ℕ
-cols st = st .n
-
 -- Empty is decided by what is held alone.
 abbrev pub isEmpty : Held → Bool
 isEmpty held.Empty = true

@@ -6,7 +6,7 @@ use lib.Dec.{ltb, eqb}
 use lib.ListN.{length, take}
 use lib.Ieee.{Float, le, lt}
 use Rattle.leaves.specs.Number.{isFinite, plusZero}
-use Rattle.factor.specs.State.{isEmpty, isNothing, storeNeed, empty}
+use Rattle.factor.specs.State.{isEmpty, isNothing, storeNeed}
 use Rattle.leaves.specs.Tests.{outside, Test, firstOf, allFinite}
 use Rattle.factor.specs.declared.state.State.{State}
 

@@ -19,8 +19,8 @@ ghost use Rattle.reduce.specs.Reduction.{reduction-of};
 ghost use Rattle.leaves.specs.Loop.{countFrom};
 ghost use Rattle.leaves.specs.Tests.{outside};
 ghost use mathlib.Core.Bool.{false};
-ghost use Rattle.reduce.specs.Bench.{grid, Benched};
-ghost use Rattle.factor.specs.Worked.{outcome, SquareLong};
+ghost use Rattle.reduce.specs.inner.Bench.{grid, Benched};
+ghost use Rattle.factor.specs.inner.Worked.{outcome, SquareLong};
 
 // The norms are in their place already.
 fn lay_store(m: usize, n: usize, bench: &[f64], diag: &[f64], store: &mut [f64])

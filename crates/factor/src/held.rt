@@ -9,8 +9,9 @@ ghost use Prim.Native.Nat.{suc, _+_, _*_, _<_, _≤_};
 ghost use lib.ListN.{length, take, drop, getD, set};
 ghost use lib.Ieee.{nan, binary64, sub, div};
 ghost use Rattle.leaves.specs.Vector.{dotOf, axpyAll};
-ghost use Rattle.leaves.specs.Square.{Square, uppersOf, belowsOf, zeros};
+ghost use Rattle.leaves.specs.Square.{uppersOf, belowsOf, zeros};
 ghost use Rattle.factor.specs.Held.{forwardUpper, forwardLower, mulUpper, mulLower};
+ghost use Rattle.leaves.specs.inner.Squares.{Square};
 
 fn forward_place(square: &[f64], n: usize, j: usize, w: &mut [f64])
     requires { ⌜ Square n (now square) ⌝ }

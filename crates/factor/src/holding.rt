@@ -15,11 +15,12 @@ ghost use Prim.Native.Nat.{ℕ, _<_, _≤_};
 ghost use lib.ListN.{length, getD, take};
 ghost use Rattle.factor.specs.declared.state.Held.the-variants as held;
 ghost use Rattle.factor.specs.State.{isEmpty, isNothing};
-ghost use Rattle.factor.specs.Room.{Sized, load};
+ghost use Rattle.factor.specs.Room.{load};
 ghost use Rattle.leaves.specs.Tests.{allFinite};
 ghost use Rattle.factor.specs.Solve.{gather};
 ghost use Rattle.factor.specs.Held.{heldSolved, heldProduct};
 ghost use Rattle.factor.specs.Outcome.{written};
+ghost use Rattle.factor.specs.inner.Rooms.{Sized};
 
 // ---- the answer goes out
 

@@ -7,8 +7,8 @@ ghost use Prim.Native.Nat.{suc, _+_, _-_, _*_, _<_, _≤_};
 ghost use lib.ListN.{length, getD, take};
 ghost use Rattle.leaves.specs.Square.{joined, zeros};
 ghost use Rattle.factor.specs.Factoring.{upperColumn, uppers, noLower, transformed};
-ghost use Rattle.reduce.specs.Bench.{grid, Benched};
-ghost use Rattle.leaves.specs.Patch.{patch};
+ghost use Rattle.reduce.specs.inner.Bench.{grid, Benched};
+ghost use Rattle.leaves.specs.inner.Patch.{patch};
 
 // Where column k stands, where columns are m apart.
 fn column_at(m: usize, n: usize, k: usize) -> usize

@@ -25,11 +25,12 @@ ghost use lib.ListN.{length, getD, take};
 ghost use Rattle.leaves.specs.Reply.{doneOf};
 ghost use Rattle.leaves.specs.Tests.{firstOf, allFinite};
 ghost use Rattle.factor.specs.Tests.{finiteTest, solveTests};
-ghost use Rattle.factor.specs.Room.{Sized, load, lay, emptied};
+ghost use Rattle.factor.specs.Room.{load, lay, emptied};
 ghost use Rattle.factor.specs.Solve.{zeroSolved, gather, scatter};
 ghost use Rattle.eliminate.specs.Eliminate.{damping};
 ghost use Rattle.factor.specs.Outcome.{ended};
-ghost use Rattle.factor.specs.Solves.{dampedRoom, dampedStep, zeroCall, dampedCall};
+ghost use Rattle.factor.specs.Solves.{dampedRoom, dampedNumbers, zeroCall, dampedCall};
+ghost use Rattle.factor.specs.inner.Rooms.{Sized};
 
 // The zero solve in pivot order, and the room that it leaves.
 fn zero_step(m: usize, n: usize, store: &mut [f64], w: &mut [f64])
@@ -114,7 +115,7 @@ fn damped_step(n: usize, store: &mut [f64], ds: &[f64], ldiag: &mut [f64], w: &m
     requires { ⌜ length (now ldiag) ≡ n ⌝ }
     requires { ⌜ length (now w) ≡ n ⌝ }
     ensures { λ _. ⌜ load n (now (store .exit)) ≡ dampedRoom (damping (now (ds .entry)) (load n (now (store .entry)) .upper) (load n (now (store .entry)) .qtb)) (load n (now (store .entry))) ⌝ }
-    ensures { λ _. ⌜ now (w .exit) ≡ dampedStep (damping (now (ds .entry)) (load n (now (store .entry)) .upper) (load n (now (store .entry)) .qtb)) ⌝ }
+    ensures { λ _. ⌜ now (w .exit) ≡ dampedNumbers (damping (now (ds .entry)) (load n (now (store .entry)) .upper) (load n (now (store .entry)) .qtb)) ⌝ }
 {
     copy_part(store, n, 0, w);
     let nn = n * n;
@@ -139,9 +140,9 @@ fn damped_finite(
     requires { ⌜ n ≤ length (now order) ⌝ }
     requires { ⌜ ((k : ℕ) → k < n → getD (now order) k 0 < n) ⌝ }
     requires { ⌜ (length (now ds) ≡ n) × (length (now ldiag) ≡ n) × (n ≤ length (now diag)) ⌝ }
-    ensures { λ r. ⌜ r ≡ allFinite (dampedStep (damping (gather (take n (now (order .entry))) (now (diag .entry))) (load n (now (store .entry)) .upper) (load n (now (store .entry)) .qtb))) ⌝ }
+    ensures { λ r. ⌜ r ≡ allFinite (dampedNumbers (damping (gather (take n (now (order .entry))) (now (diag .entry))) (load n (now (store .entry)) .upper) (load n (now (store .entry)) .qtb))) ⌝ }
     ensures { λ r. ⌜ now (store .exit) ≡ lay (cond r (dampedRoom (damping (gather (take n (now (order .entry))) (now (diag .entry))) (load n (now (store .entry)) .upper) (load n (now (store .entry)) .qtb)) (load n (now (store .entry)))) (emptied (load n (now (store .entry))))) ⌝ }
-    ensures { λ r. ⌜ now (out .exit) ≡ cond r (scatter (take n (now (order .entry))) (dampedStep (damping (gather (take n (now (order .entry))) (now (diag .entry))) (load n (now (store .entry)) .upper) (load n (now (store .entry)) .qtb))) (now (out .entry))) (now (out .entry)) ⌝ }
+    ensures { λ r. ⌜ now (out .exit) ≡ cond r (scatter (take n (now (order .entry))) (dampedNumbers (damping (gather (take n (now (order .entry))) (now (diag .entry))) (load n (now (store .entry)) .upper) (load n (now (store .entry)) .qtb))) (now (out .entry))) (now (out .entry)) ⌝ }
 {
     gather_into(order, n, diag, ds);
     damped_step(n, store, ds, ldiag, w);

@@ -22,11 +22,12 @@ ghost use lib.ListN.{length};
 ghost use Rattle.leaves.specs.Reply.{doneOf};
 ghost use Rattle.eliminate.specs.Eliminate.{damping};
 ghost use Rattle.factor.specs.Answers.{truthOf};
-ghost use Rattle.factor.specs.Room.{Sized, load};
+ghost use Rattle.factor.specs.Room.{load};
 ghost use Rattle.factor.specs.Solve.{zeroSolved};
-ghost use Rattle.factor.specs.Solves.{dampedStep};
-ghost use Rattle.factor.specs.Outcome.{read, left};
+ghost use Rattle.factor.specs.Solves.{dampedNumbers};
+ghost use Rattle.factor.specs.Outcome.{read, leftIn};
 ghost use Rattle.factor.specs.PivotOrder.{lowered, zeroIn, dampedIn, heldZeroIn, heldDampedIn, productIn, fullRank, emptyIn};
+ghost use Rattle.factor.specs.inner.Rooms.{Sized};
 
 // The zero solve in pivot order.
 fn zero_numbers(m: usize, n: usize, store: &[f64], w: &mut [f64])
@@ -61,7 +62,7 @@ fn damped_numbers(n: usize, store: &mut [f64], ds: &[f64], ldiag: &mut [f64], w:
     requires { ⌜ length (now ldiag) ≡ n ⌝ }
     requires { ⌜ length (now w) ≡ n ⌝ }
     ensures { λ _. ⌜ load n (now (store .exit)) ≡ lowered (damping (now (ds .entry)) (load n (now (store .entry)) .upper) (load n (now (store .entry)) .qtb)) (load n (now (store .entry))) ⌝ }
-    ensures { λ _. ⌜ now (w .exit) ≡ dampedStep (damping (now (ds .entry)) (load n (now (store .entry)) .upper) (load n (now (store .entry)) .qtb)) ⌝ }
+    ensures { λ _. ⌜ now (w .exit) ≡ dampedNumbers (damping (now (ds .entry)) (load n (now (store .entry)) .upper) (load n (now (store .entry)) .qtb)) ⌝ }
 {
     copy_part(store, n, 0, w);
     let nn = n * n;
@@ -76,7 +77,7 @@ fn damped_numbers(n: usize, store: &mut [f64], ds: &[f64], ldiag: &mut [f64], w:
 // exit its first n are the step.
 // Refused 2 for n outside 1 to 16, 3 for a slice that is too short; every slice is then as it was.
 pub fn damped(n: usize, store: &mut [f64], ds: &[f64], w: &mut [f64]) -> Done
-    ensures { λ r. ⌜ left (doneOf r) (now (store .exit)) (now (w .exit)) ≡ dampedIn n (now (ds .entry)) (now (store .entry)) (now (w .entry)) ⌝ }
+    ensures { λ r. ⌜ leftIn (doneOf r) (now (store .exit)) (now (w .exit)) ≡ dampedIn n (now (ds .entry)) (now (store .entry)) (now (w .entry)) ⌝ }
 {
     let c = sizes(1, n, store.len(), least(ds.len(), w.len()));
     if c != 0 {

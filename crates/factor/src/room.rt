@@ -2,8 +2,10 @@
 ghost use mathlib.Core.Path.{_≡_};
 ghost use Prim.Native.Nat.{suc, _+_, _-_, _*_, _<_, _≤_};
 ghost use lib.ListN.{length, set};
-ghost use Rattle.factor.specs.Room.{Sized, part, load, lay, leaving, withPart, rested, emptied};
-ghost use Rattle.leaves.specs.Square.{Square, uppersOf, belowsOf, zeros, cleared};
+ghost use Rattle.factor.specs.Room.{part, load, lay, leaving, rested, emptied};
+ghost use Rattle.leaves.specs.Square.{uppersOf, belowsOf, zeros, cleared};
+ghost use Rattle.leaves.specs.inner.Squares.{Square};
+ghost use Rattle.factor.specs.inner.Rooms.{Sized, withPart};
 
 // Where part k of the four behind the square starts, where columns stand `apart` places apart.
 pub(crate) fn part_at(apart: usize, n: usize, k: usize) -> usize

@@ -10,8 +10,9 @@ ghost use Prim.Native.Nat.{ℕ, suc, _+_, _-_, _*_, _<_, _≤_};
 ghost use lib.ListN.{length, take, drop, getD, set};
 ghost use lib.Ieee.{nan, binary64, sub, div};
 ghost use Rattle.leaves.specs.Vector.{dotOf};
-ghost use Rattle.leaves.specs.Square.{Square, uppersOf, belowsOf, diagonal, zeros};
+ghost use Rattle.leaves.specs.Square.{uppersOf, belowsOf, diagonal, zeros};
 ghost use Rattle.factor.specs.Solve.{rank, scatter, gather, zeroSolved, nonSingular, backward, dampedSolved};
+ghost use Rattle.leaves.specs.inner.Squares.{Square};
 
 fn diagonal_at(square: &[f64], n: usize, k: usize) -> f64
     requires { ⌜ Square n (now square) ⌝ }

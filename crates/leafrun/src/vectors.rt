@@ -6,7 +6,7 @@ use crate::answer::of_place;
 use crate::answer::of_value;
 use lines::scan::word;
 use text::double::of_bits;
-ghost use Rattle.text.specs.Part.{Part};
+ghost use Rattle.text.specs.inner.Part.{Part};
 
 // The place after the words that were read; what the leaf answered; in the first len cells what it wrote.
 pub(crate) struct Answer {

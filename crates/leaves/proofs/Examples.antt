@@ -12,7 +12,7 @@ use Rattle.leaves.specs.Number.{plusZero, isNegative, maxOf, minOf, epsm
 use Rattle.leaves.specs.Vector.{dot, axpy, axpyZero, imax}
 use Rattle.leaves.specs.Root.{rootS}
 use Rattle.leaves.specs.Norm.{rdwarf, rgiant, enorm}
-use Rattle.leaves.specs.Opened.{opened}
+use Rattle.leaves.specs.inner.Opened.{opened}
 
 -- whole numbers, and bit patterns
 abbrev w : ℕ → Float

@@ -1,14 +1,15 @@
 -- The bench by columns: a place read and written, a column's lower end lent out. Assumes nothing.
 use mathlib.Core.Path.{_≡_, sym, ap, _∙_}
-use mathlib.Core.List.{List, [], _∷_, _++_, append-assoc}
+use mathlib.Core.List.{List, [], _++_, append-assoc}
 use Prim.Native.Nat.{ℕ, zero, suc, _+_, _-_, _*_, _<_, _≤_}
-use native.Mathlib.Nat.{suc-mul, zero-mul, not-suc-le-zero, le-of-suc-le-suc, sub-zero, suc-sub-suc}
+use native.Mathlib.Nat.{suc-mul, zero-mul, not-suc-le-zero, le-of-suc-le-suc}
 use native.Mathlib.Omega.{arith}
 use lib.ListN.{length, getD, take, drop, set, length-append, length-drop}
-use lib.Seq.{getD-take, getD-drop, take-take, drop-drop, take-add, take-at, drop-at, take-nil, length-take-le, take-set-lt, take-set-le, drop-set-lt, drop-set-add}
+use lib.Seq.{getD-take, getD-drop, take-take, drop-drop, take-add, take-at, drop-at, length-take-le, take-set-lt, take-set-le, drop-set-lt, drop-set-add}
 use lib.Ieee.{Float, nan}
 use Rattle.leaves.specs.Triangle.{columns}
-use Rattle.leaves.specs.Patch.{patch}
+use Rattle.leaves.specs.inner.Patch.{patch}
+use Rattle.leaves.proofs.Splices.{drop-take}
 use Rattle.leaves.proofs.Triangles.{column-at, column-fits}
 
 -- ---- one place
@@ -31,12 +32,6 @@ pub grid-write : (m n : ℕ) (s : List Float) (j i q : ℕ) (x : Float) → q �
 grid-write m n s j i q x e h k = rw e (write-at m n s j i x h k)
 
 -- ---- a column's lower end
-pub drop-take : {A : Type 0} (r m : ℕ) (l : List A) → drop r (take m l) ≡ take (m - r) (drop r l)
-drop-take zero m l = rw sub-zero
-drop-take (suc r) zero l = let e : 0 - suc r ≡ 0 = omega arith in rw e
-drop-take (suc r) (suc m) [] = sym (take-nil (suc m - suc r))
-drop-take (suc r) (suc m) (x ∷ l) = rw suc-sub-suc (drop-take r m l)
-
 pub tail-read : (m n j r : ℕ) (s : List Float) → j < n → take (m - r) (drop (j * m + r) s) ≡ drop r (getD (columns m n s) j [])
 tail-read m n j r s h = rw (column-at m n j s h, drop-take r m (drop (j * m) s), drop-drop r (j * m) s)
 

@@ -10,14 +10,14 @@ use lib.Ieee.{Float}
 use Rattle.leaves.specs.Number.{plusZero}
 use Rattle.leaves.specs.Triangle.{columns}
 use Rattle.leaves.specs.Square.{uppersFrom, belowsFrom, joined, cleared}
-use Rattle.leaves.proofs.Splices.{drop-take}
+use Rattle.leaves.proofs.Splices.{drop-sum}
 
 pub columns-front : (n k : ℕ) (s : List Float) → columns n k (take (k * n) s) ≡ columns n k s
 unfolding columns
 columns-front n zero s = refl
 columns-front n (suc k) s =
     let e : suc k * n ≡ n + k * n = omega (arith, suc-mul k n) in
-    rw (e, take-take n (n + k * n) s (omega arith), drop-take n (k * n) s, columns-front n k (drop n s))
+    rw (e, take-take n (n + k * n) s (omega arith), drop-sum n (k * n) s, columns-front n k (drop n s))
 
 pub columns-same : (n k : ℕ) (s t : List Float) → take (k * n) s ≡ take (k * n) t → columns n k s ≡ columns n k t
 columns-same n k s t h = sym (columns-front n k s) ∙ ap (λ (l : List Float). columns n k l) h ∙ columns-front n k t

@@ -1,16 +1,16 @@
--- What a norm says of the numbers it is taken of (01, 'Leaf rules', enorm): a norm is finite only where every entry is, and it is never below zero. So refusal 8
--- for a norm that is not finite covers its entries too, and the tests against zero that follow a norm need no sign. Assumes nothing.
+-- What a norm says of the numbers it is taken of (01, 'Leaf rules', enorm): a norm is finite only where every entry is, it is NaN where an entry is, and it is
+-- never below zero. So refusal 8 for a norm that is not finite covers its entries too, and the tests against zero that follow a norm need no sign. Assumes nothing.
 use mathlib.Core.Path.{_≡_, refl, sym, ap, subst, _∙_}
 use mathlib.Core.Bool.{Bool, true, false, cond, _&&_, true≢false}
 use mathlib.Core.List.{List, [], _∷_}
 use mathlib.Core.Logic.{_⊎_, inl, inr, ⊎-map}
-use Prim.Native.Nat.{ℕ, zero, suc, _+_, _*_, _^_, _<_}
+use Prim.Native.Nat.{ℕ, zero, suc, _*_, _^_, _<_}
 use native.Mathlib.Nat.{not-suc-le-zero, le-of-suc-le-suc, mul-pos}
 use native.Mathlib.Omega.{arith}
 use lib.Dec.{eqb, ltb}
 use lib.IntN.{ℤ, pos}
 use lib.ListN.{length, getD}
-use lib.Ieee.{Float, nan, inf, fin, binary64, up, down, add, mul, div, lt, le, eq, ne, units, round}
+use lib.Ieee.{Float, nan, inf, fin, binary64, up, down, add, mul, div, lt, le, eq, ne, isNan, units, round}
 use lib.Ieee.Compare.{nan-differs}
 use lib.Ieee.Fits.{down-pos, round-is}
 use lib.Ieee.Scale.{round-same}
@@ -91,15 +91,22 @@ infinity-spoils s1 s2 s3 (inf true) x3 = inl (ap (λ (y : Float). add binary64 o
 infinity-spoils s1 s2 s3 (inf false) x3 = inl (add-nan s1)
 infinity-spoils s1 s2 s3 (fin s m e) x3 = rw (square-zero _) (⊎-map (λ q. q) (λ q. (q, refl)) (one-more s1))
 
-nan-spoils : (s1 s2 s3 x1 x3 : Float) → Spoiled (large (sums s1 s2 s3 x1 x3) nan)
+-- a NaN leaves no number in s1
+abbrev Lost : Sums → Type 0
+Lost t = t .s1 ≡ nan
+
+nan-large : (s1 s2 s3 x1 x3 : Float) → Lost (large (sums s1 s2 s3 x1 x3) nan)
 unfolding large lt div mul squareOf
-nan-spoils s1 s2 s3 nan x3 = inl (add-nan s1)
-nan-spoils s1 s2 s3 (inf s) x3 = inl (add-nan s1)
-nan-spoils s1 s2 s3 (fin s m e) x3 = inl (add-nan s1)
+nan-large s1 s2 s3 nan x3 = add-nan s1
+nan-large s1 s2 s3 (inf s) x3 = add-nan s1
+nan-large s1 s2 s3 (fin s m e) x3 = add-nan s1
+
+nan-loses : (g : Float) (t : Sums) → Lost (step g t nan)
+nan-loses g t = subst Lost (nan-step g t nan nan-differs refl) (nan-large (t .s1) (t .s2) (t .s3) (t .x1max) (t .x3max))
 
 spoils : (g : Float) (t : Sums) (x : Float) → isFinite x ≡ false → Spoiled (step g t x)
 unfolding isFinite absOf
-spoils g t nan h = subst Spoiled (nan-step g t nan nan-differs refl) (nan-spoils (t .s1) (t .s2) (t .s3) (t .x1max) (t .x3max))
+spoils g t nan h = inl (nan-loses g t)
 spoils g t (inf s) h = rw (infinity-large g t) (infinity-spoils (t .s1) (t .s2) (t .s3) (t .x1max) (t .x3max))
 spoils g t (fin s m e) h = absurd (true≢false h)
 
@@ -110,9 +117,12 @@ stays-one s2 s3 x3 nan = inl (add-nan one)
 stays-one s2 s3 x3 (inf s) = inl (add-nan one)
 stays-one s2 s3 x3 (fin s m e) = inr (rw (square-zero false) (one-and-zero false), refl)
 
-stays-large : (t : Sums) (x : Float) → Spoiled t → Spoiled (large t (absOf x))
+lost-large : (t : Sums) (x : Float) → Lost t → Lost (large t (absOf x))
 unfolding large add mul
-stays-large t x (inl e) = arms Spoiled (lt (t .x1max) (absOf x)) (inl (rw e)) (inl (rw e))
+lost-large t x e = arms Lost (lt (t .x1max) (absOf x)) (rw e) (rw e)
+
+stays-large : (t : Sums) (x : Float) → Spoiled t → Spoiled (large t (absOf x))
+stays-large t x (inl e) = inl (lost-large t x e)
 stays-large t x (inr q) =
     let e : t ≡ sums one (t .s2) (t .s3) (inf false) (t .x3max) =
     ap (λ (y : Float). sums y (t .s2) (t .s3) (t .x1max) (t .x3max)) (q .0) ∙ ap (λ (y : Float). sums one (t .s2) (t .s3) y (t .x3max)) (q .1) in
@@ -156,6 +166,32 @@ norm-entries xs h i k = go (isFinite (getD xs i nan)) refl
     go : (b : Bool) → isFinite (getD xs i nan) ≡ b → b ≡ true
     go true e = refl
     go false e = absurd (true≢false (sym h ∙ norm-nonfinite xs i k e))
+
+-- ---- and of numbers with a NaN among them it is NaN
+lost-step : (g : Float) (t : Sums) (x : Float) → Lost t → Lost (step g t x)
+unfolding middle small
+lost-step g t x h = in-one Lost g t (absOf x) h (arms Lost (lt (t .x3max) (absOf x)) h (arms Lost (eq (absOf x) plusZero) h h)) (lost-large t x h)
+
+lost-all : (g : Float) (t : Sums) (xs : List Float) → Lost t → Lost (accumulate g t xs)
+unfolding accumulate
+lost-all g t [] h = h
+lost-all g t (x ∷ xs) h = lost-all g (step g t x) xs (lost-step g t x h)
+
+nan-loses-all : (g : Float) (t : Sums) (xs : List Float) (i : ℕ) → i < length xs → isNan (getD xs i nan) ≡ true → Lost (accumulate g t xs)
+unfolding accumulate isNan
+nan-loses-all g t [] i h k = absurd (not-suc-le-zero h)
+nan-loses-all g t (nan ∷ xs) zero h k = lost-all g (step g t nan) xs (nan-loses g t)
+nan-loses-all g t (inf s ∷ xs) zero h k = absurd (true≢false (sym k))
+nan-loses-all g t (fin s m e ∷ xs) zero h k = absurd (true≢false (sym k))
+nan-loses-all g t (x ∷ xs) (suc i) h k = nan-loses-all g (step g t x) xs i (le-of-suc-le-suc h) k
+
+finish-lost : (t : Sums) → Lost t → finish t ≡ nan
+unfolding finish finishLarge ne rootS add
+finish-lost t e = rw (e, mul-nan (t .x1max))
+
+pub nan-entry : (xs : List Float) (i : ℕ) → i < length xs → isNan (getD xs i nan) ≡ true → norm xs ≡ nan
+unfolding norm
+nan-entry xs i h k = finish-lost (accumulate (agiant (length xs)) none xs) (nan-loses-all (agiant (length xs)) none xs i h k)
 
 -- ---- products: one with a factor that is not finite is not finite, whatever the other factor
 times-nonfinite : (x y : Float) → isFinite x ≡ false → isFinite (mul binary64 x y) ≡ false

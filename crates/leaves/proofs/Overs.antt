@@ -11,7 +11,7 @@ use lib.Ieee.{Float}
 use Rattle.leaves.specs.Number.{plusZero}
 use Rattle.leaves.specs.Loop.{countFrom}
 use Rattle.leaves.specs.Square.{zeros}
-use Rattle.leaves.specs.Patch.{patch}
+use Rattle.leaves.specs.inner.Patch.{patch}
 
 pub append-nil : {A : Type 0} (l : List A) → l ++ [] ≡ l
 append-nil [] = refl

@@ -9,18 +9,7 @@ use lib.Dec.{ltb, eqb}
 use borrow.Author.Tests.{ltb-true, eq-eqb}
 use Rattle.leaves.specs.Tests.{Test, firstOf}
 use Rattle.leaves.proofs.Overs.{over}
-
--- no condition of the list holds
-abbrev pub NoneHold : List Test → Type 0
-NoneHold [] = Unit {0}
-NoneHold (t ∷ ts) = (t .0 ≡ false) × NoneHold ts
-
--- k's condition holds and no earlier one
-pub record RefusedBy (ts : List Test) (k : ℕ) : Type 0 where
-  pub earlier : List Test
-  pub later : List Test
-  pub splits : ts ≡ earlier ++ ((true, k) ∷ later)
-  pub none-earlier : NoneHold earlier
+use Rattle.leaves.specs.Refusing.{NoneHold, RefusedBy}
 
 -- every number is a refusal's: none is 0. It computes: `refl` for a call's list.
 abbrev pub numbered : List Test → Bool

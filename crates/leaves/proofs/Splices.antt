@@ -3,7 +3,7 @@
 use mathlib.Core.Path.{_≡_, refl, sym, ap, _∙_}
 use mathlib.Core.List.{List, [], _∷_, _++_, append-assoc}
 use Prim.Native.Nat.{ℕ, zero, suc, _+_, _-_, _≤_}
-use native.Mathlib.Nat.{zero-add, suc-add}
+use native.Mathlib.Nat.{sub-zero, suc-sub-suc}
 use native.Mathlib.Omega.{arith}
 use lib.ListN.{length, take, drop, replicate, length-append, length-drop, take-append-drop}
 use lib.Seq.{length-take-le, take-append-le, take-at, drop-at, take-take, drop-drop, take-nil}
@@ -25,10 +25,15 @@ module _ {A : Type 0} where
   pub part-long : (a n : ℕ) (s : List A) → a + n ≤ length s → length (take n (drop a s)) ≡ n
   part-long a n s h = length-take-le n (drop a s) (simp length-drop (omega arith))
 
-  pub drop-take : (a n : ℕ) (s : List A) → drop a (take (a + n) s) ≡ take n (drop a s)
-  drop-take zero n s = rw zero-add
-  drop-take (suc a) n [] = rw suc-add (sym (take-nil n))
-  drop-take (suc a) n (x ∷ s) = rw suc-add (drop-take a n s)
+  pub drop-take : (r m : ℕ) (s : List A) → drop r (take m s) ≡ take (m - r) (drop r s)
+  drop-take zero m s = rw sub-zero
+  drop-take (suc r) zero s = let e : 0 - suc r ≡ 0 = omega arith in rw e
+  drop-take (suc r) (suc m) [] = sym (take-nil (suc m - suc r))
+  drop-take (suc r) (suc m) (x ∷ s) = rw suc-sub-suc (drop-take r m s)
+
+  -- of a sum
+  pub drop-sum : (a n : ℕ) (s : List A) → drop a (take (a + n) s) ≡ take n (drop a s)
+  drop-sum a n s = let e : a + n - a ≡ n = omega arith in drop-take a (a + n) s ∙ ap (λ (k : ℕ). take k (drop a s)) e
 
   -- a part, and what comes after it
   pub part-rest : (a n : ℕ) {b : ℕ} (s : List A) → a + n ≡ b → take n (drop a s) ++ drop b s ≡ drop a s
@@ -54,7 +59,7 @@ module _ {A : Type 0} where
 
     -- a part before it
     pub splice-before : (p n : ℕ) → p + n ≤ a → take n (drop p (splice a e y s)) ≡ take n (drop p s)
-    splice-before p n k = sym (drop-take p n (splice a e y s)) ∙ ap (λ (l : List A). drop p l) (splice-take (p + n) k) ∙ drop-take p n s
+    splice-before p n k = sym (drop-sum p n (splice a e y s)) ∙ ap (λ (l : List A). drop p l) (splice-take (p + n) k) ∙ drop-sum p n s
 
     -- it
     pub splice-at : (n : ℕ) → length y ≡ n → take n (drop a (splice a e y s)) ≡ y

@@ -9,7 +9,8 @@ use lib.Seq.{take-take, getD-take, getD-drop}
 use lib.Ieee.{Float, nan}
 use Rattle.leaves.specs.Triangle.{columns}
 use Rattle.leaves.proofs.Triangles.{column-at, column-fits}
-use Rattle.leaves.specs.Square.{Square, uppersFrom, belowsFrom, uppersOf, belowsOf, diagonalFrom, diagonal}
+use Rattle.leaves.specs.Square.{uppersFrom, belowsFrom, uppersOf, belowsOf, diagonalFrom, diagonal}
+use Rattle.leaves.specs.inner.Squares.{Square}
 
 pub columns-length : (apart k : ℕ) (s : List Float) → length (columns apart k s) ≡ k
 unfolding columns

@@ -1,14 +1,16 @@
--- What the contracts of `leaves` cite, in document 01's order: module 1, the leaf rules.
+-- What the public contracts of `leaves` cite, in document 01's order: module 1, the leaf rules; the rules first, then what the crates above share.
+pub mod Number
+pub mod Root
+pub mod Vector
+pub mod Norm
+pub mod Triangle
 pub mod Reply
 pub mod Tests
-pub mod Number
-pub mod Vector
-pub mod Triangle
 pub mod Square
-pub mod Root
-pub mod Norm
 pub mod Product
 pub mod Loop
-pub mod Parts
-pub mod Patch
-pub mod Opened
+-- What the demands say of them.
+pub mod Refusing
+pub mod IsRoot
+-- What only inner functions, laws and examples cite stands apart: nobody need believe it.
+pub mod inner

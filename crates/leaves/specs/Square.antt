@@ -1,6 +1,5 @@
 -- 01, 'Lent room': an n×n square, column by column: R's columns on and above the diagonal, and what stands below.
-use Prim.Native.Nat.{ℕ, suc, _+_, _-_, _*_, _≤_}
-use mathlib.Core.Path.{_≡_}
+use Prim.Native.Nat.{ℕ, suc}
 use mathlib.Core.List.{List, [], _∷_, _++_}
 use lib.ListN.{length, take, drop, getD, replicate}
 use lib.Ieee.{Float, nan}
@@ -45,8 +44,3 @@ diagonal upper = diagonalFrom 0 upper
 unfoldable pub cleared : List (List Float) → List (List Float)
 cleared [] = []
 cleared (l ∷ ls) = zeros (length l) ∷ cleared ls
-
--- what a working needs of a square that is lent
-pub record Square (n : ℕ) (s : List Float) : Type 0 where
-  pub small : n ≤ 16
-  pub whole : length s ≡ n * n

@@ -25,7 +25,7 @@
 ghost use mathlib.Core.Path.{_≡_};
 ghost use Prim.Native.Nat.{_+_, _*_, _^_, _≤_, _<_};
 ghost use Rattle.leaves.specs.Root.{rootS, nearRoot};
-ghost use Rattle.leaves.specs.Parts.{Normed, Rooted, packed, magnitude};
+ghost use Rattle.leaves.specs.inner.Parts.{Normed, Rooted, packed, magnitude};
 
 // t and z of the derivation: n has z digits, and t the same moved to 53.
 pub struct Norm {

@@ -6,7 +6,7 @@ use native.Mathlib.Omega.{arith}
 use borrow.Author.Tests.{lt-ltb, le-ltb}
 use lib.ListN.{length}
 use lib.Seq.{length-take-le}
-use Rattle.text.specs.Part.{Part}
+use Rattle.text.specs.inner.Part.{Part}
 use Rattle.lines.specs.Part.{atMost}
 
 pub part : {A : Type 0} (n : ℕ) (l : List A) → n ≤ length l → Part n l

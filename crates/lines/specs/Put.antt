@@ -2,11 +2,11 @@
 use Prim.Native.Nat.{ℕ}
 use mathlib.Core.List.{List, [], _∷_}
 use lib.Ieee.{Float, binary64, toBits}
-use Rattle.text.specs.Put.{digits, placed}
+use Rattle.text.specs.Put.{digits, stored}
 
 -- one text behind another
 unfoldable pub joined : List ℕ → List ℕ → ℕ → List ℕ → ℕ × List ℕ
-joined a b at l = placed b (placed a at l .0) (placed a at l .1)
+joined a b at l = stored b (stored a at l .0) (stored a at l .1)
 
 abbrev pub space : List ℕ
 space = 32 ∷ []

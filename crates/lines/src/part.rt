@@ -1,7 +1,7 @@
 // How much of a slice a number asks for: n, where it has as many; else all that it has.
 ghost use mathlib.Core.Path.{_≡_};
 ghost use lib.ListN.{length};
-ghost use Rattle.text.specs.Part.{Part};
+ghost use Rattle.text.specs.inner.Part.{Part};
 ghost use Rattle.lines.specs.Part.{atMost};
 
 // n, or how many bytes s has where that is less. Refuses nothing.

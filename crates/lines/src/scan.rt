@@ -3,7 +3,7 @@ use text::double::of_bits;
 use text::read::Read;
 ghost use mathlib.Core.Path.{_≡_};
 ghost use lib.ListN.{getD};
-ghost use Rattle.text.specs.Part.{Part};
+ghost use Rattle.text.specs.inner.Part.{Part};
 ghost use Rattle.lines.specs.Scan.{past, wordAt, none, doublesAt, vectorAt};
 
 // A number, and the place of the word after it.

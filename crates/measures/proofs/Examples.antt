@@ -9,7 +9,7 @@ use Rattle.leaves.specs.Reply.{answered}
 use Rattle.leaves.specs.Number.{plusZero}
 use Rattle.factor.specs.Factoring.{Factored, factorCall}
 use Rattle.measures.specs.Measures.{gradientCall, determinedCall}
-use Rattle.measures.specs.Opened.{opened}
+use Rattle.measures.specs.inner.Opened.{opened}
 
 -- whole numbers
 abbrev w : ℕ → Float

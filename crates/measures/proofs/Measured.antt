@@ -13,7 +13,7 @@ use Rattle.leaves.specs.Number.{plusZero, isFinite}
 use Rattle.leaves.specs.Reply.{Reply, answered, refused}
 use Rattle.leaves.specs.Product.{dividedBy}
 use Rattle.measures.specs.Gradient.{measures, largest, gradient, jxNorm}
-use Rattle.factor.specs.Room.{Sized, load, lay, rested}
+use Rattle.factor.specs.Room.{load, lay, rested}
 use Rattle.leaves.specs.Square.{uppersOf, diagonal}
 use Rattle.factor.specs.Solve.{gather, nonSingular}
 use Rattle.measures.specs.Determined.{leading, determinedOf}
@@ -29,6 +29,7 @@ use Rattle.factor.proofs.PivotOrders.{full-rank-passed}
 use Rattle.factor.proofs.Passed.{Ordered, room-passed, passed-sized, solve-passed, order-alone}
 use Rattle.leaves.proofs.Refusals.{call-refused, call-worked, earlier-passed}
 use Rattle.leaves.proofs.Insides.{Inside}
+use Rattle.factor.specs.inner.Rooms.{Sized}
 
 -- ---- sizes, as the workings on a store ask them
 pub one-inside : {n : ℕ} {s : List Float} → 0 < n → Sized n s → Inside 1 n

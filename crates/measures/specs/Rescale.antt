@@ -34,13 +34,6 @@ scalingTests st mode.FirstUnscaled store diag x bound = firstTests st store diag
 scalingTests st mode.LaterScaled store diag x bound = roomTests st store (length diag) ++ (finiteTest st diag ∷ [])
 scalingTests st mode.LaterUnscaled store diag x bound = roomTests st store (length diag)
 
--- how many parameters a mode reads
-abbrev pub parametersRead : Mode → ℕ → ℕ
-parametersRead mode.FirstScaled n = n
-parametersRead mode.FirstUnscaled n = n
-parametersRead mode.LaterScaled n = 0
-parametersRead mode.LaterUnscaled n = 0
-
 -- an answer and the lent scaling after it; refused 8 leaves the scaling
 abbrev pub orRefused : Bool → Scaled → List Float → List Float → Reply Scaled × List Float
 orRefused ok a new old = elim ok [ true ↦ (answered a, new) | false ↦ (refused 8, old) ]

@@ -15,9 +15,10 @@ ghost use Rattle.leaves.specs.Number.{plusZero, absOf};
 ghost use Rattle.leaves.specs.Vector.{dotOf, axpyAll};
 ghost use Rattle.factor.specs.Solve.{gather};
 ghost use Rattle.measures.specs.Answers.{gradientOf};
-ghost use Rattle.leaves.specs.Square.{Square, uppersOf};
+ghost use Rattle.leaves.specs.Square.{uppersOf};
 ghost use Rattle.leaves.specs.Product.{dividedBy};
 ghost use Rattle.measures.specs.Gradient.{measures, largest, combined, jxNorm};
+ghost use Rattle.leaves.specs.inner.Squares.{Square};
 
 // The Rust gives None for a NaN; here that is refusal 8, as is a measure that is not finite.
 pub enum Gradient {

@@ -31,9 +31,10 @@ ghost use Rattle.factor.specs.Outcome.{told};
 ghost use Rattle.measures.specs.Measures.{gradientCall, jxCall, determinedCall, nonSingularCall, finiteOr8};
 ghost use Rattle.factor.specs.Tests.{solveTests, roomTests, orderTest, finiteTest, finiteNumber, notAbove};
 ghost use Rattle.measures.specs.Gradient.{gradient, jxNorm};
-ghost use Rattle.factor.specs.Room.{Sized, load, lay, rested};
+ghost use Rattle.factor.specs.Room.{load, lay, rested};
 ghost use Rattle.factor.specs.Solve.{gather};
 ghost use Rattle.leaves.specs.Tests.{firstOf};
+ghost use Rattle.factor.specs.inner.Rooms.{Sized};
 
 pub struct GradientTold {
     pub answer: Gradient,

@@ -16,8 +16,9 @@ ghost use Rattle.leaves.specs.Norm.{norm};
 ghost use Rattle.leaves.specs.Product.{productAll};
 ghost use Rattle.measures.specs.Answers.{scalingOf};
 ghost use Rattle.measures.specs.Scaling.{firstScaling, laterScaling, radiusOf, startBy, usable};
-ghost use Rattle.measures.specs.Rescale.{parametersRead, rescaled};
+ghost use Rattle.measures.specs.Rescale.{rescaled};
 ghost use Rattle.measures.specs.declared.scaling.Mode.the-variants as modes;
+ghost use Rattle.measures.specs.inner.Reads.{parametersRead};
 
 pub enum Mode {
     FirstScaled,

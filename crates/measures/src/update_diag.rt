@@ -16,10 +16,12 @@ ghost use Prim.Native.Nat.{_<_, _≤_};
 ghost use lib.ListN.{length};
 ghost use Rattle.measures.specs.Answers.{scalingOf};
 ghost use Rattle.factor.specs.Outcome.{ended};
-ghost use Rattle.measures.specs.Rescale.{firstTests, scalingTests, parametersRead, rescaled, scalingCall};
-ghost use Rattle.factor.specs.Room.{Sized, load, lay, rested};
+ghost use Rattle.measures.specs.Rescale.{firstTests, scalingTests, rescaled, scalingCall};
+ghost use Rattle.factor.specs.Room.{load, lay, rested};
 ghost use Rattle.leaves.specs.Tests.{firstOf};
 ghost use Rattle.factor.specs.Tests.{roomTests, finiteTest};
+ghost use Rattle.factor.specs.inner.Rooms.{Sized};
+ghost use Rattle.measures.specs.inner.Reads.{parametersRead};
 
 pub struct ScalingTold {
     pub answer: Scaling,

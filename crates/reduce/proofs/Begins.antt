@@ -11,7 +11,7 @@ use Rattle.leaves.specs.Norm.{norm}
 use Rattle.leaves.specs.Loop.{countFrom}
 use Rattle.leaves.specs.Triangle.{columns}
 use Rattle.reduce.specs.Reduction.{start}
-use Rattle.reduce.specs.Bench.{grid, Benched, underWay}
+use Rattle.reduce.specs.inner.Bench.{grid, Benched, underWay}
 use Rattle.leaves.proofs.Triangles.{column-at}
 use Rattle.leaves.proofs.Squares.{columns-length}
 use Rattle.leaves.proofs.Grids.{column-long}

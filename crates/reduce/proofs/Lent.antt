@@ -18,11 +18,11 @@ use Rattle.leaves.specs.Loop.{upto}
 use Rattle.leaves.proofs.Triangles.{column-at}
 use Rattle.leaves.proofs.Refusals.{passed-iff, call-refused, call-worked}
 use Rattle.reduce.specs.Reduction.{Reduction, start, reduction-of, reduced as reducedAt}
-use Rattle.reduce.specs.Bench.{grid, Benched, underWay, Reduces}
-use Rattle.reduce.specs.Reduced.{Reduced, reduced, flat, reduceTests, reduceCall}
+use Rattle.reduce.specs.inner.Bench.{grid, Benched, underWay, Reduces}
+use Rattle.reduce.specs.Reduced.{Reduced, reducedAs, flat, reduceTests, reduceCall}
 use Rattle.reduce.proofs.Begins.{take-columns}
 use Rattle.reduce.proofs.Fitting.{Fits, reduction-fits}
-use Rattle.leaves.proofs.Insides.{Inside, inside, within}
+use Rattle.leaves.proofs.Insides.{Inside, inside}
 
 -- ---- 2: sizes within their ranges
 -- ---- the tests: none is met exactly where sizes and lengths fit
@@ -128,20 +128,20 @@ module _ (m n : ℕ) (jac res v₀ d₀ : List Float) (o₀ : List ℕ) (b₀ : 
   tests = firstOf (reduceTests m n (length jac) (length res) (length v₀) (length d₀) (length o₀) (length b₀))
 
   abbrev worked : Reduced
-  worked = let f = reduction-of m n (columns m n jac) res in reduced (answered tt) (map norm (columns m n jac)) (f .diag) (f .order) (flat (f .cols) ++ f .rhs)
+  worked = let f = reduction-of m n (columns m n jac) res in reducedAs (answered tt) (map norm (columns m n jac)) (f .diag) (f .order) (flat (f .cols) ++ f .rhs)
 
-  pub call-refuses : (c : ℕ) → c ≡ tests → (c ≡ 0 → ⊥) → reduced (refused c) v₀ d₀ o₀ b₀ ≡ reduceCall m n jac res v₀ d₀ o₀ b₀
+  pub call-refuses : (c : ℕ) → c ≡ tests → (c ≡ 0 → ⊥) → reducedAs (refused c) v₀ d₀ o₀ b₀ ≡ reduceCall m n jac res v₀ d₀ o₀ b₀
   unfolding reduceCall
-  call-refuses c e h = call-refused worked (λ (k : ℕ). reduced (refused k) v₀ d₀ o₀ b₀) _ c (sym e) (ne-eqb c 0 h)
+  call-refuses c e h = call-refused worked (λ (k : ℕ). reducedAs (refused k) v₀ d₀ o₀ b₀) _ c (sym e) (ne-eqb c 0 h)
 
   call-works : tests ≡ 0 → worked ≡ reduceCall m n jac res v₀ d₀ o₀ b₀
   unfolding reduceCall
-  call-works e = call-worked worked (λ (k : ℕ). reduced (refused k) v₀ d₀ o₀ b₀) _ e
+  call-works e = call-worked worked (λ (k : ℕ). reducedAs (refused k) v₀ d₀ o₀ b₀) _ e
 
   -- what the working leaves: begun on the bench, and reduced column by column
   pub call-works-out : (v d₁ w₁ x₁ b₁ d w b : List Float) (o₁ o : List ℕ) → tests ≡ 0 → v ≡ map norm (columns m n jac)
       → underWay m n b₁ d₁ w₁ o₁ ≡ start (columns m n jac) (take m res) → x₁ ≡ w₁ → underWay m n b d w o ≡ upto (reducedAt n) (min m n) (underWay m n b₁ d₁ x₁ o₁)
-      → length b ≡ length b₀ → reduced (answered tt) v d o b ≡ reduceCall m n jac res v₀ d₀ o₀ b₀
+      → length b ≡ length b₀ → reducedAs (answered tt) v d o b ≡ reduceCall m n jac res v₀ d₀ o₀ b₀
   unfolding reduction-of
   call-works-out v d₁ w₁ x₁ b₁ d w b o₁ o t hv h₁ ew h₂ lb =
       let l = lengths m n (length jac) (length res) (length v₀) (length d₀) (length o₀) (length b₀) t in
@@ -153,7 +153,7 @@ module _ (m n : ℕ) (jac res v₀ d₀ : List Float) (o₀ : List ℕ) (b₀ : 
       let hb : b ≡ flat (f .cols) ++ f .rhs = sym (bench-whole m n b whole) ∙ ap (λ (x : Reduction). flat (x .cols) ++ x .rhs) e in
       let hd : d ≡ f .diag = ap (λ (x : Reduction). x .diag) e in
       let ho : o ≡ f .order = ap (λ (x : Reduction). x .order) e in
-      let all : reduced (answered tt) v d o b ≡ worked = rw (hv, hd, ho, hb) in
+      let all : reducedAs (answered tt) v d o b ≡ worked = rw (hv, hd, ho, hb) in
       all ∙ call-works t
 
 -- at the start r_diag has the norms of the columns as they stand
@@ -163,10 +163,10 @@ start-norms m n b d w o cs r e = ap (λ (x : Reduction). x .diag) e ∙ sym (ap 
 
 -- ---- for callers: what stands in the lent slices after a reduction whose sizes and lengths fit
 pub reduces : (m n : ℕ) (jac res v₀ v d₀ d : List Float) (o₀ o : List ℕ) (b₀ b : List Float) {r : Reply (Unit {0})} → outside m n ≡ false → length jac ≡ m * n → length res ≡ m
-    → length v₀ ≡ n → length d₀ ≡ n → length o₀ ≡ n → length b₀ ≡ m * n + m → reduced r v d o b ≡ reduceCall m n jac res v₀ d₀ o₀ b₀ → Reduces m n jac res v d o b
+    → length v₀ ≡ n → length d₀ ≡ n → length o₀ ≡ n → length b₀ ≡ m * n + m → reducedAs r v d o b ≡ reduceCall m n jac res v₀ d₀ o₀ b₀ → Reduces m n jac res v d o b
 reduces m n jac res v₀ v d₀ d o₀ o b₀ b {r = r} hs hj hr hv hd ho hb e =
     let t = fitting m n (length jac) (length res) (length v₀) (length d₀) (length o₀) (length b₀) (record { sizes = hs; jac-long = hj; res-long = hr; norms-long = hv; diag-long = hd; order-long = ho; bench-long = hb }) in
-    let w : reduced r v d o b ≡ worked m n jac res v₀ d₀ o₀ b₀ = e ∙ sym (call-works m n jac res v₀ d₀ o₀ b₀ t) in
+    let w : reducedAs r v d o b ≡ worked m n jac res v₀ d₀ o₀ b₀ = e ∙ sym (call-works m n jac res v₀ d₀ o₀ b₀ t) in
     let f : Reduction = reduction-of m n (columns m n jac) res in
     let fits : Fits m n f = reduction-fits m n jac res (le-of-eq (sym hj)) hr in
     let tall : (k : ℕ) → k < length (f .cols) → length (getD (f .cols) k []) ≡ m = λ k h. fits .cols-tall k (subst (λ (x : ℕ). k < x) (fits .cols-wide) h) in

@@ -18,7 +18,7 @@ use Rattle.leaves.specs.Triangle.{columns}
 use Rattle.leaves.proofs.Folds.{front, front-step, front-end}
 use Rattle.leaves.specs.Loop.{between}
 use Rattle.reduce.specs.Reduction.{Reduction, reduction, swap, pivoted, axisBy, reflectFrom, later, signed, withDiag, withRhs, reflected, reduced}
-use Rattle.reduce.specs.Bench.{swapPlace, swept}
+use Rattle.reduce.specs.inner.Bench.{swapPlace, swept}
 use Rattle.leaves.proofs.Loops.{between-keeps}
 use Rattle.leaves.proofs.Grids.{grid-read, grid-write}
 use Rattle.reduce.proofs.Begins.{norms-at}

@@ -1,5 +1,5 @@
--- What the contracts of `reduce` cite: modules 2 and 3 of document 01.
-pub mod Reduction
+-- What the public contract of `reduce` cites, the call first: modules 2 and 3 of document 01.
 pub mod Reduced
-pub mod Bench
-pub mod Opened
+pub mod Reduction
+-- What only inner functions, laws and examples cite stands apart: nobody need believe it.
+pub mod inner

@@ -19,8 +19,8 @@ pub record Reduced : Type 0 where
   pub order : List ℕ
   pub bench : List Float
 
-abbrev pub reduced : Reply (Unit {0}) → List Float → List Float → List ℕ → List Float → Reduced
-reduced a v d o b = record { reply = a; norms = v; diag = d; order = o; bench = b }
+abbrev pub reducedAs : Reply (Unit {0}) → List Float → List Float → List ℕ → List Float → Reduced
+reducedAs a v d o b = record { reply = a; norms = v; diag = d; order = o; bench = b }
 
 -- columns one after the other
 unfoldable pub flat : List (List Float) → List Float
@@ -40,6 +40,6 @@ reduceCall m n jacobian residuals norms diag order bench =
     let c = firstOf (reduceTests m n (length jacobian) (length residuals) (length norms) (length diag) (length order) (length bench)) in
     let f = reduction-of m n (columns m n jacobian) residuals in
     elim (eqb c 0) [
-      | true ↦ reduced (answered tt) (map norm (columns m n jacobian)) (f .diag) (f .order) (flat (f .cols) ++ f .rhs)
-      | false ↦ reduced (refused c) norms diag order bench
+      | true ↦ reducedAs (answered tt) (map norm (columns m n jacobian)) (f .diag) (f .order) (flat (f .cols) ++ f .rhs)
+      | false ↦ reducedAs (refused c) norms diag order bench
     ]

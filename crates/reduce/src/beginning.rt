@@ -10,7 +10,7 @@ ghost use lib.ListN.{length, take};
 ghost use Rattle.leaves.specs.Norm.{norm};
 ghost use Rattle.leaves.specs.Triangle.{columns};
 ghost use Rattle.reduce.specs.Reduction.{start};
-ghost use Rattle.reduce.specs.Bench.{grid, Benched, underWay};
+ghost use Rattle.reduce.specs.inner.Bench.{grid, Benched, underWay};
 
 fn copy_in(m: usize, n: usize, jacobian: &[f64], residuals: &[f64], bench: &mut [f64])
     requires { ⌜ Benched m n (now bench) ⌝ }

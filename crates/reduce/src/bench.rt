@@ -8,7 +8,7 @@ ghost use mathlib.Core.Path.{_≡_};
 ghost use lib.ListN.{length};
 ghost use Rattle.leaves.specs.Reply.{doneOf};
 ghost use Rattle.leaves.specs.Tests.{firstOf};
-ghost use Rattle.reduce.specs.Reduced.{reduced, reduceTests, reduceCall};
+ghost use Rattle.reduce.specs.Reduced.{reducedAs, reduceTests, reduceCall};
 
 fn room128() -> [f64; 128]
     ensures { λ r. ⌜ length r ≡ 128 ⌝ }
@@ -66,7 +66,7 @@ pub fn reduce_bench(
     order: &mut [usize],
     bench: &mut [f64],
 ) -> Done
-    ensures { λ r. ⌜ reduced (doneOf r) (now (norms .exit)) (now (diag .exit)) (now (order .exit)) (now (bench .exit)) ≡ reduceCall m n (now (jacobian .entry)) (now (residuals .entry)) (now (norms .entry)) (now (diag .entry)) (now (order .entry)) (now (bench .entry)) ⌝ }
+    ensures { λ r. ⌜ reducedAs (doneOf r) (now (norms .exit)) (now (diag .exit)) (now (order .exit)) (now (bench .exit)) ≡ reduceCall m n (now (jacobian .entry)) (now (residuals .entry)) (now (norms .entry)) (now (diag .entry)) (now (order .entry)) (now (bench .entry)) ⌝ }
 {
     let c = check(
         m,

@@ -15,7 +15,7 @@ ghost use lib.Ieee.{nan};
 ghost use Rattle.leaves.specs.Norm.{norm};
 ghost use Rattle.leaves.specs.Loop.{upto};
 ghost use Rattle.reduce.specs.Reduction.{swap, pivoted, axisBy, signed as signedOf, reflected, reduced};
-ghost use Rattle.reduce.specs.Bench.{grid, Benched, underWay, Steps, swapPlace};
+ghost use Rattle.reduce.specs.inner.Bench.{grid, Benched, underWay, Steps, swapPlace};
 
 fn swap_places(m: usize, n: usize, j: usize, k: usize, i: usize, bench: &mut [f64])
     requires { ⌜ Benched m n (now bench) ⌝ }

@@ -12,7 +12,7 @@ ghost use Prim.Native.Nat.{suc, _+_, _-_, _*_, _<_, _≤_};
 ghost use lib.ListN.{length, getD, set};
 ghost use Rattle.leaves.specs.Loop.{between};
 ghost use Rattle.reduce.specs.Reduction.{axisBy, reflect as reflectOf, reflectFrom, later, signed as signedOf, shrunk as shrunkOf};
-ghost use Rattle.reduce.specs.Bench.{grid, Benched, Steps, divided, renewedAt, stale as staleOf};
+ghost use Rattle.reduce.specs.inner.Bench.{grid, Benched, Steps, divided, renewedAt, stale as staleOf};
 
 // The norm of a column with the sign of its first place.
 pub(crate) fn signed(s: f64, col: &[f64]) -> f64

@@ -7,7 +7,7 @@ use factor::state::State;
 use factor::state::Told;
 use leaves::reply::Done;
 use text::double::bits_of;
-ghost use Rattle.text.specs.Part.{Part};
+ghost use Rattle.text.specs.inner.Part.{Part};
 
 // How many were copied: all, or none where the room is too short, which then shows as a difference.
 fn copied(v: &[f64], room: &mut [f64]) -> usize

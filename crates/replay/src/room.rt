@@ -1,7 +1,7 @@
 // The program's rooms. They hold the rules' largest problem, 128 residuals and 16 parameters, with a surplus.
 use factor::state::Held;
 use factor::state::State;
-ghost use Rattle.text.specs.Part.{Part};
+ghost use Rattle.text.specs.inner.Part.{Part};
 
 // How long each lent room is.
 pub(crate) struct Lent {

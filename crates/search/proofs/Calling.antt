@@ -22,10 +22,10 @@ use Rattle.factor.specs.declared.state.State.{State}
 use Rattle.factor.specs.declared.state.Held.the-variants as held
 use Rattle.leaves.proofs.Refusals.{passed-iff, call-refused, call-worked, earlier-passed}
 use Rattle.factor.proofs.Passed.{solve-passed}
-use Rattle.leaves.proofs.Grids.{drop-take}
+use Rattle.leaves.proofs.Splices.{drop-take}
 use Rattle.search.specs.Problem.{Problem, placed}
 use Rattle.search.specs.Search.{Answer, answerOf, problemOf, searchTests, searched, searchCall}
-use Rattle.search.specs.Read.{Ready}
+use Rattle.search.specs.inner.Read.{Ready}
 use Rattle.search.specs.declared.LMParameter.{LMParameter}
 use Rattle.search.proofs.Shapes.{placed-length, scatter-fresh}
 use Rattle.search.proofs.Workings.{order-long, order-below}

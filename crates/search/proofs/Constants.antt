@@ -3,7 +3,7 @@ use mathlib.Core.Path.{_≡_, refl}
 use lib.Ieee.{binary64, ofBits}
 use Rattle.leaves.specs.Number.{plusZero}
 use Rattle.search.specs.Bounds.{tenth, thousandth}
-use Rattle.search.specs.Opened.{opened}
+use Rattle.search.specs.inner.Opened.{opened}
 
 pub tenth-is : ofBits binary64 0x3FB999999999999A ≡ tenth
 unfolding opened

@@ -16,7 +16,14 @@ pub mod AgainstEnorm
 pub mod Commuting
 pub mod LmparVectors
 pub mod LmparSigns
+pub mod QrsolvRotation
+pub mod QrsolvPlaces
+pub mod QrsolvCopy
+pub mod QrsolvTurns
+pub mod QrsolvElimination
+pub mod QrsolvSolution
 pub mod AgainstQrsolv
+pub mod Falling
 pub mod LmparTrials
 pub mod LmparStart
 pub mod LmparCalls

@@ -14,7 +14,7 @@ use Rattle.leaves.proofs.Fronts.{front-old, map-at}
 use Rattle.leaves.proofs.Products.{product-length, product-at, divided-length}
 use Rattle.factor.proofs.Solves.{gather-at, gather-length, scatter-turn}
 use Rattle.search.specs.Bounds.{quotients}
-use Rattle.search.specs.Read.{turnedBy}
+use Rattle.search.specs.inner.Read.{turnedBy}
 
 -- ---- over a number, times the scaling
 pub turned-length : (s : Float) (v ds : List Float) → length v ≡ length ds → length (turnedBy s v ds) ≡ length v

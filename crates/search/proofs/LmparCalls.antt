@@ -1,42 +1,45 @@
 -- An answered call of the search, read for LMPAR: its tests were passed, it wrote its step, and the step has n entries. Assumes nothing.
-use mathlib.Core.Path.{_≡_, refl, sym, ap, _∙_}
+use mathlib.Core.Path.{_≡_, refl, sym, ap, ap₂, _∙_}
 use mathlib.Core.Bool.{Bool, true, false}
 use mathlib.Core.List.{List}
 use Prim.Native.Nat.{ℕ, zero, suc}
+use native.Mathlib.Omega.{arith}
 use lib.Dec.{eqb}
 use lib.ListN.{length, take, drop}
-use lib.Seq.{take-at, length-take-le}
+use lib.Seq.{take-at, take-take, length-take-le}
 use lib.Ieee.{Float, binary64, sub, le}
 use borrow.Author.Tests.{eqb-true, not-false}
 use Rattle.leaves.specs.Reply.{Reply, answered, refused}
 use Rattle.leaves.specs.Number.{plusZero, dwarf, isFinite}
 use Rattle.leaves.proofs.Replies.{refused-answered, answered-same}
-use Rattle.factor.specs.Room.{Room, Shaped, load, lay, emptied}
+use Rattle.factor.specs.Room.{Room, load, lay, emptied}
 use Rattle.leaves.specs.Square.{diagonal}
 use Rattle.leaves.specs.Tests.{Test, firstOf}
 use Rattle.factor.specs.Solve.{gather, zeroSolved, dampedSolved}
 use Rattle.eliminate.specs.Eliminate.{damping, heads, tails}
+use Rattle.factor.specs.Tests.{distinctBelow}
 use Rattle.factor.specs.Outcome.{Ended, ended, written}
 use Rattle.factor.specs.declared.state.State.{State}
 use Rattle.leaves.proofs.Refusals.{passed-iff}
 use Rattle.factor.proofs.Solves.{gather-length}
-use Rattle.search.specs.Problem.{Problem, placed, undampedStep, scaledNorm}
+use Rattle.search.specs.Problem.{Problem, placed, undampedStep, scaledStep}
 use Rattle.search.specs.Bounds.{band}
 use Rattle.search.specs.Search.{Answer, answerOf, problemOf, searchTests, searched, searchCall}
 use Rattle.search.specs.Qrsolv.{Solved, qrsolv}
 use Rattle.search.specs.Lmpar.{Given, Output, Before, Tried, evaluated, accepted, improved, iterations, lmpar}
 use Rattle.search.specs.declared.LMParameter.{LMParameter}
 use Rattle.search.proofs.Shapes.{placed-length, zero-length, damped-length, damping-fits}
-use Rattle.search.proofs.Workings.{shaped, order-long}
+use Rattle.search.proofs.Workings.{shaped, order-long, permuted}
 use Rattle.search.proofs.Calling.{ready}
 use Rattle.search.proofs.AgainstQrsolv.{qrsolv-is}
 use Rattle.search.proofs.LmparVectors.{Enough}
-use Rattle.search.proofs.LmparTrials.{Formed, givenOf, beforeOf}
-use Rattle.search.proofs.LmparStart.{first, tested-is, answer-is-lmpar}
+use Rattle.search.proofs.LmparTrials.{Formed, AsNorm, givenOf}
+use Rattle.search.proofs.LmparStart.{firstBy, tested-is, answer-is-lmpar}
 use Rattle.search.proofs.LmparStart as start
+use Rattle.factor.specs.inner.Rooms.{Shaped}
 
 -- ---- x has n entries
-module _ (p : Problem) (w : Formed p) where
+module _ (enorm : List Float → Float) (p : Problem) (w : Formed p) where
   abbrev n : ℕ
   n = length (p .upper)
 
@@ -46,22 +49,22 @@ module _ (p : Problem) (w : Formed p) where
   qrsolv-long : (wa1 : List Float) → length (qrsolv n (p .upper) (p .order) wa1 (p .qtb) .x) ≡ n
   qrsolv-long wa1 =
       let rows = damping (gather (p .order) wa1) (p .upper) (p .qtb) in
-      ap (λ (x : Solved). length (x .x)) (qrsolv-is (p .upper) (p .order) wa1 (p .qtb) (w .pivots) (w .rhs))
+      ap (λ (x : Solved). length (x .x)) (qrsolv-is (p .upper) (p .order) wa1 (p .qtb) (w .pivots) (w .rhs) (w .tall) (w .permuted))
       ∙ placed-length (p .order) (dampedSolved (heads (rows .0)) (tails (rows .0)) (rows .1))
       ∙ damped-length (heads (rows .0)) (tails (rows .0)) (rows .1)
       ∙ damping-fits (gather (p .order) wa1) (p .upper) (p .qtb) (gather-length (p .order) wa1 ∙ w .pivots) (w .rhs) .1
 
-  evaluated-long : (b : Before) → length (evaluated dwarf a b .solved .x) ≡ n
+  evaluated-long : (b : Before) → length (evaluated enorm dwarf a b .solved .x) ≡ n
   unfolding evaluated
   evaluated-long b = qrsolv-long _
 
-  iterations-long : (k : ℕ) (b : Before) → length (iterations dwarf a k b .x) ≡ n
+  iterations-long : (k : ℕ) (b : Before) → length (iterations enorm dwarf a k b .x) ≡ n
   unfolding iterations
   iterations-long zero b = evaluated-long b
-  iterations-long (suc k) b = let t = evaluated dwarf a b in by (accepted a b t) t (evaluated-long b) (iterations-long k (improved a b t))
+  iterations-long (suc k) b = let t = evaluated enorm dwarf a b in by (accepted a b t) t (evaluated-long b) (iterations-long k (improved enorm a b t))
     where
-      by : (z : Bool) (t : Tried) → length (t .solved .x) ≡ n → length (iterations dwarf a k (improved a b t) .x) ≡ n
-          → length ((elim z as (λ _. Output) [ true ↦ record { x = t .solved .x; par = t .par; qrsolvs = suc (b .iter) } | false ↦ iterations dwarf a k (improved a b t) ]) .x) ≡ n
+      by : (z : Bool) (t : Tried) → length (t .solved .x) ≡ n → length (iterations enorm dwarf a k (improved enorm a b t) .x) ≡ n
+          → length ((elim z as (λ _. Output) [ true ↦ record { x = t .solved .x; par = t .par; qrsolvs = suc (b .iter) } | false ↦ iterations enorm dwarf a k (improved enorm a b t) ]) .x) ≡ n
       by true t h r = h
       by false t h r = r
 
@@ -69,14 +72,15 @@ module _ (p : Problem) (w : Formed p) where
   unfolding undampedStep placed
   undamped-long = placed-length (p .order) (zeroSolved (p .m) (p .upper) (p .qtb)) ∙ zero-length (p .m) (p .upper) (p .qtb) (sym (w .rhs)) ∙ w .rhs
 
-  x-long : (initial : Float) → Enough (p .m) (diagonal (p .upper)) → length (lmpar dwarf a initial .x) ≡ n
+  x-long : (initial : Float) → Enough (p .m) (diagonal (p .upper)) → length (lmpar enorm dwarf a initial .x) ≡ n
   x-long initial wide =
-      ap (λ (x : Output). length (x .x)) (tested-is p initial wide w)
-      ∙ by (le (sub binary64 (scaledNorm p (undampedStep p)) (p .radius)) (band (p .radius)))
+      let v = scaledStep p (undampedStep p) in
+      ap (λ (x : Output). length (x .x)) (tested-is enorm p initial wide w)
+      ∙ by (firstBy enorm p initial v (enorm v)) (le (sub binary64 (enorm v) (p .radius)) (band (p .radius)))
     where
-      by : (z : Bool) → length (start.ended p initial (undampedStep p) (beforeOf 0 (first p initial)) z .x) ≡ n
-      by true = undamped-long
-      by false = iterations-long 9 (beforeOf 0 (first p initial))
+      by : (b : Before) (z : Bool) → length (start.ended enorm p initial (undampedStep p) b z .x) ≡ n
+      by b true = undamped-long
+      by b false = iterations-long 9 b
 
 -- ---- an answer comes from the working alone, and writes its step
 module _ (st : State) (s store out : List Float) (c : ℕ) where
@@ -122,18 +126,24 @@ module _ (st : State) (order : List ℕ) (diag : List Float) (radius lambda : Fl
     fits = shaped st store order (ready st store order diag radius lambda out refl (worked .0))
 
     formed : Formed asked
-    formed = record {
-      pivots = length-take-le (st .n) order (order-long st store order (ready st store order diag radius lambda out refl (worked .0))) ∙ sym (fits .upper-wide);
-      rhs = fits .qtb-long ∙ sym (fits .upper-wide);
-    }
+    formed =
+        let e = ready st store order diag radius lambda out refl (worked .0) in
+        let w = fits .upper-wide in
+        record {
+          pivots = length-take-le (st .n) order (order-long st store order e) ∙ sym w;
+          rhs = fits .qtb-long ∙ sym w;
+          tall = λ k l. fits .upper-tall k (rw w at l);
+          permuted = ap₂ (λ (n : ℕ) (os : List ℕ). distinctBelow n os) w (ap (λ (n : ℕ). take n (take (st .n) order)) w ∙ take-take (st .n) (st .n) order (omega arith)) ∙ permuted st store order e;
+        }
 
     given-is : given ≡ givenOf asked
     given-is = rw (fits .upper-wide)
 
-    pub answers-as-lmpar : Enough (st .m) (diagonal (room .upper)) → lmpar dwarf given lambda ≡ record { x = take (st .n) (call .out); par = a .lambda; qrsolvs = a .trials }
-    answers-as-lmpar wide =
+    pub answers-as-lmpar : (enorm : List Float → Float) → AsNorm enorm → Enough (st .m) (diagonal (room .upper))
+        → lmpar enorm dwarf given lambda ≡ record { x = take (st .n) (call .out); par = a .lambda; qrsolvs = a .trials }
+    answers-as-lmpar enorm same wide =
         let step = worked .1 .0 in
-        let same = answer-is-lmpar asked lambda wide formed a step (numbers .0) (numbers .1) (worked .1 .1 .0) in
-        let long : length step ≡ st .n = ap (λ (x : Output). length (x .x)) (sym same) ∙ x-long asked formed lambda wide ∙ fits .upper-wide in
+        let is = answer-is-lmpar enorm asked lambda wide formed same a step (numbers .0) (numbers .1) (worked .1 .1 .0) in
+        let long : length step ≡ st .n = ap (λ (x : Output). length (x .x)) (sym is) ∙ x-long enorm asked formed lambda wide ∙ fits .upper-wide in
         let e : take (st .n) (call .out) ≡ step = ap (take (st .n)) (worked .1 .1 .1) ∙ take-at step (drop (length step) out) (st .n) long in
-        ap (λ (x : Given). lmpar dwarf x lambda) given-is ∙ same ∙ ap (λ (x : List Float). record { x = x; par = a .lambda; qrsolvs = a .trials }) (sym e)
+        ap (λ (x : Given). lmpar enorm dwarf x lambda) given-is ∙ is ∙ ap (λ (x : List Float). record { x = x; par = a .lambda; qrsolvs = a .trials }) (sym e)

@@ -1,4 +1,5 @@
--- Where LMPAR compares fp with zero and the search reads its sign bit, the two agree: past the test by delta·0.1 fp is no zero and no NaN.
+-- Where LMPAR compares fp with zero and the search reads its sign bit, the two agree: past the test by delta·0.1 fp is no zero and no NaN. And a norm that
+-- divides into a finite number is no NaN.
 -- Assumes nothing.
 use mathlib.Core.Path.{_≡_, refl, sym, _∙_}
 use mathlib.Core.Bool.{Bool, true, false, cond, not, _&&_, _||_, Bool·beq, true≢false, and-eq-true-iff}
@@ -7,14 +8,15 @@ use native.Mathlib.Nat.{mul-pos}
 use native.Mathlib.Omega.{arith}
 use lib.Dec.{ltb, eqb}
 use lib.IntN.{ℤ, negsuc}
-use lib.Ieee.{Float, Format, nan, inf, fin, binary64, up, down, low, prec, emax, below, level, odd, units, round, neg, sum, add, sub, mul, lt, le, eq, isNan}
+use lib.Ieee.{Float, Format, nan, inf, fin, binary64, up, down, low, prec, emax, below, level, odd, units, round, neg, sum, add, sub, mul, div, lt, le, eq, isNan}
 use lib.Ieee.Fits.{up-pos}
 use borrow.Author.Tests.{lt-ltb, eq-eqb, eqb-true}
 use Rattle.leaves.specs.Number.{plusZero, isFinite, isNegative, absOf}
 use Rattle.leaves.proofs.Signs.{other-sign}
-use Rattle.search.specs.Bounds.{tenth, band}
-use Rattle.search.specs.Opened.{opened}
+use Rattle.search.specs.Bounds.{band}
 use Rattle.search.proofs.Constants.{zero-is}
+use Rattle.search.proofs.Signs.{negative-le}
+use Rattle.search.proofs.Sound.{tenth-is}
 
 -- ---- a rounded number has the sign that was asked for, and is one
 odd-sign : (d : ℕ) (s : Bool) (q k l : ℕ) → isNegative (odd d s q k l) ≡ s
@@ -43,7 +45,7 @@ units-number f s q k = by (ltb (q * 2 ^ k) (2 ^ (low f + suc (emax f))))
     by true = odd-number (suc (prec f)) s q k (low f)
     by false = refl
 
-round-sign : (f : Format) (s : Bool) (a b : ℕ) → isNegative (round f s a b) ≡ s
+pub round-sign : (f : Format) (s : Bool) (a b : ℕ) → isNegative (round f s a b) ≡ s
 unfolding round
 round-sign f s a b = units-sign f s _ _
 
@@ -68,6 +70,19 @@ difference-number f (inf s) y h k = absurd (true≢false (sym h))
 difference-number f (fin s m e) nan h k = absurd (true≢false (sym k))
 difference-number f (fin s m e) (inf t) h k = absurd (true≢false (sym k))
 difference-number f (fin s m e) (fin t n d) h k = sum-number f s _ (not t) _ _
+
+-- ---- what divides into a finite number is no NaN
+nan-divides : (x : Float) → isFinite (div binary64 x nan) ≡ false
+unfolding div isFinite
+nan-divides nan = refl
+nan-divides (inf s) = refl
+nan-divides (fin s m e) = refl
+
+pub divisor-number : (x y : Float) → isFinite (div binary64 x y) ≡ true → isNan y ≡ false
+unfolding isNan
+divisor-number x nan h = absurd (true≢false (sym h ∙ nan-divides x))
+divisor-number x (inf s) h = refl
+divisor-number x (fin s m e) h = refl
 
 -- ---- signs by comparing
 not-zero : (s : Bool) (m : ℕ) (e : ℤ) → eq (fin s (suc m) e) plusZero ≡ true → ⊥
@@ -112,10 +127,6 @@ zero-within (fin r zero e) (fin false q d) h s n = zero-le r (0 * up e * down d)
 zero-within (fin r (suc m) e) (fin false q d) h s n = absurd (not-zero r m e h)
 
 -- ---- delta·0.1, for a delta that passes the tests
-tenth-number : tenth ≡ fin false 3602879701896397 (negsuc 54)
-unfolding opened
-tenth-number = refl
-
 pub record Bounded (x : Float) : Type 0 where
   pub plain : isNegative x ≡ false
   pub number : isNan x ≡ false
@@ -126,16 +137,12 @@ product-bounded m n e d =
     let a = m * up e * (n * up d) in
     record { plain = round-sign binary64 false a (down e * down d); number = round-number binary64 false a (down e * down d) }
 
-negative-le : (a b : ℕ) → (below true a false b || level true a false b) ≡ true
-negative-le zero b = zero-le true 0 b refl
-negative-le (suc a) b = rw (lt-ltb 0 (suc a + b) (omega arith))
-
 pub band-bounded : (radius : Float) → isFinite radius ≡ true → le radius plusZero ≡ false → Bounded (band radius)
 unfolding isFinite band le lt eq
 band-bounded nan f p = absurd (true≢false (sym f))
 band-bounded (inf s) f p = absurd (true≢false (sym f))
 band-bounded (fin true m e) f p = absurd (true≢false (sym (negative-le (m * up e * 1) (0 * down e)) ∙ p))
-band-bounded (fin false m e) f p = rw tenth-number (product-bounded m 3602879701896397 e (negsuc 54))
+band-bounded (fin false m e) f p = rw tenth-is (product-bounded m 3602879701896397 e (negsuc 54))
 
 abs-zero : (x : Float) → eq x plusZero ≡ true → eq (absOf x) plusZero ≡ true
 unfolding eq absOf

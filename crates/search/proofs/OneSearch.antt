@@ -10,7 +10,6 @@ use denote.Triple.Clauses.{AtExit}
 use Rattle.leaves.proofs.Replies.{answered-refused, refused-answered, answered-same, refused-same}
 use Rattle.factor.specs.Outcome.{Ended, ended}
 use Rattle.factor.specs.declared.state.State.{State}
-use Rattle.search.specs.Read.{foundOf}
 use Rattle.search.specs.declared.LMParameter.{LMParameter}
 use Rattle.search.specs.declared.trust_region.Found.{Found}
 use Rattle.search.specs.declared.trust_region.Found.the-variants as found
@@ -18,6 +17,7 @@ use Rattle.search.specs.declared.trust_region.SearchTold.{SearchTold}
 use Rattle.search.proofs.trust_region.determine_lambda_and_parameter_update.{signature}
 use Rattle.search.proofs.trust_region.determine_lambda_and_parameter_update.Reads as search
 use Rattle.search.proofs.trust_region.determine_lambda_and_parameter_update.Kinds as kinds
+use Rattle.search.specs.Answers.{foundOf}
 
 abbrev End : Type 0
 End = Ended LMParameter

@@ -6,17 +6,18 @@ use mathlib.Core.Logic.{_⊎_, inl, inr}
 use Prim.Native.Nat.{ℕ, suc, _+_}
 use native.Mathlib.Omega.{arith}
 use lib.Ieee.{Float, binary64, sub, lt, le}
-use Rattle.leaves.specs.Reply.{answered, refused}
+use Rattle.leaves.specs.Reply.{answered}
 use Rattle.leaves.specs.Number.{plusZero, isFinite}
 use Rattle.leaves.proofs.Replies.{answered-same, refused-answered}
 use Rattle.search.specs.Problem.{Problem, undampedStep, dampedStep, scaledNorm}
 use Rattle.search.specs.Bounds.{band}
 use Rattle.search.specs.Run.{Run, Trial, Stop, stopped, last, trial, undamped, within, isWithin, trialsFrom, runOf}
 use Rattle.search.specs.Run as run
-use Rattle.search.specs.Ending.{ending, trialCount}
+use Rattle.search.specs.Ending.{ending, RuledFrom}
 use Rattle.search.specs.Search.{Answer, answer, concluded, answerOf}
 use Rattle.search.proofs.Sound.{first-sound}
-use Rattle.search.proofs.Runs.{EachTrial, Good, Counted, RuledFrom, each-good, each-counted, each-ruled, undampedFp, first, run-cases, some-trial}
+use Rattle.search.proofs.Runs.{EachTrial, Good, Counted, each-good, each-counted, each-ruled, undampedFp, first, run-cases, some-trial}
+use Rattle.search.specs.inner.Counting.{trialCount}
 
 -- ---- an answer that is read off a run: what was there before the first trial, or the last trial
 module _ (P : Trial → Run → Type 0) where
@@ -74,6 +75,7 @@ pub record Answered (p : Problem) (r : Run) (b : Answer) : Type 0 where
   pub lambda-finite : isFinite (b .0 .lambda) ≡ true
   pub norm-finite : isFinite (b .0 .«dp_norm») ≡ true
   pub norm-is : b .0 .«dp_norm» ≡ scaledNorm p (b .1)
+  pub counts : b .0 .trials ≡ trialCount r
   pub by-rule : Undamped p r b ⊎ Damped p r b
 
 module _ (p : Problem) (rf : isFinite (p .radius) ≡ true) (ra : le (p .radius) plusZero ≡ false) (initial : Float) (hi : lt initial plusZero ≡ false) where
@@ -81,17 +83,18 @@ module _ (p : Problem) (rf : isFinite (p .radius) ≡ true) (ra : le (p .radius)
   before = answer plusZero (scaledNorm p (undampedStep p)) 0 (undampedStep p)
 
   undamped-answer : (b : Answer) → isFinite (scaledNorm p (undampedStep p)) ≡ true → le (undampedFp p initial) (band (p .radius)) ≡ true → b ≡ before → Answered p (stopped undamped) b
-  unfolding ending isFinite
+  unfolding ending trialCount isFinite
   undamped-answer b f w e = rw e (record {
     lambda-finite = refl;
     norm-finite = f;
     norm-is = refl;
+    counts = refl;
     by-rule = inl (record { taken = w; lambda-zero = refl; no-trial = refl; step-is = refl; stopped-by = refl });
   })
 
-  by-last : (r : Run) (b : Answer) → le (undampedFp p initial) (band (p .radius)) ≡ false → (x : Stop) → ending r ≡ inl x → Counted 9 (b .0 .trials) x → Last (Good p) x b → Answered p r b
+  by-last : (r : Run) (b : Answer) → le (undampedFp p initial) (band (p .radius)) ≡ false → (x : Stop) → ending r ≡ inl x → b .0 .trials ≡ trialCount r → Counted 9 (b .0 .trials) x → Last (Good p) x b → Answered p r b
   unfolding ending
-  by-last r b w x e c l =
+  by-last r b w x e n c l =
       let t = l .0 in
       let g = l .1 .0 in
       let is = l .1 .1 in
@@ -99,6 +102,7 @@ module _ (p : Problem) (rf : isFinite (p .radius) ≡ true) (ra : le (p .radius)
         lambda-finite = g .lambda-finite;
         norm-finite = g .norm-finite x refl;
         norm-is = g .norm-is;
+        counts = n;
         by-rule = inr (record {
           not-taken = w;
           lambda-above = g .lambda-above;
@@ -115,7 +119,7 @@ module _ (p : Problem) (rf : isFinite (p .radius) ≡ true) (ra : le (p .radius)
       let s = first p initial in
       let n = h .count in
       let c = subst (λ (i : ℕ). Counted 9 i (h .stop)) (let z : trialCount (trialsFrom p 9 s) ≡ b .0 .trials = omega arith in z) (each-counted p 9 s (h .stop) (h .ends)) in
-      by-last (trialsFrom p 9 s) b w (h .stop) (h .ends) c (only-last (h .of))
+      by-last (trialsFrom p 9 s) b w (h .stop) (h .ends) (omega arith) c (only-last (h .of))
     where
       only-last : {x : Stop} → ((trialsFrom p 9 (first p initial) ≡ stopped x) × (b ≡ before)) ⊎ Last (Good p) x b → Last (Good p) x b
       only-last {x} (inl q) = some-trial p 9 (first p initial) x (q .0)

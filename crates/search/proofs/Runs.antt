@@ -6,13 +6,14 @@ use mathlib.Core.Logic.{_⊎_, inl, inr}
 use Prim.Native.Nat.{ℕ, zero, suc, _≤_}
 use native.Mathlib.Omega.{arith}
 use lib.Ieee.{Float, binary64, add, sub, lt, le, eq}
-use Rattle.leaves.specs.Number.{plusZero, isFinite, isNegative, absOf, maxOf, minOf}
+use Rattle.leaves.specs.Number.{plusZero, isFinite, isNegative, maxOf, minOf}
 use Rattle.search.specs.Problem.{Problem, undampedStep, dampedStep, scaledNorm, dampedSlope, newton}
 use Rattle.search.specs.Bounds.{band, lowerBound, gnorm, upperBound, firstLambda}
 use Rattle.search.specs.Run.{Run, stopped, last, trial, Stop, undamped, ten, within, falling, Place, undamped-norm, lower-bound, gradient-norm, trial-lambda, trial-norm, correction, Next, Trial, next, trialOf, isWithin, isFalling, trialsFrom, runOf}
 use Rattle.search.specs.Run as run
-use Rattle.search.specs.Ending.{ending, trialCount}
+use Rattle.search.specs.Ending.{ending, Ruled, RuledFrom}
 use Rattle.search.proofs.Sound.{Sound, trial-above, next-sound}
+use Rattle.search.specs.inner.Counting.{trialCount}
 
 -- ---- a run by its tests
 module _ (p : Problem) (s : Next) where
@@ -37,7 +38,7 @@ module _ (p : Problem) (s : Next) where
       by true e false f = b e f
       by true e true f = c e f
 
-  turn-cases : (k : ℕ) (P : Run → Type 0) → (isFinite (this .lambda) ≡ false → P (run.refused trial-lambda))
+  pub turn-cases : (k : ℕ) (P : Run → Type 0) → (isFinite (this .lambda) ≡ false → P (run.refused trial-lambda))
       → (isFinite (this .lambda) ≡ true → isFinite (this .norm) ≡ false → P (last this (run.refused trial-norm)))
       → (isFinite (this .lambda) ≡ true → isFinite (this .norm) ≡ true → isWithin p fpOf ≡ true → P (trial this fpOf (stopped within)))
       → (isFinite (this .lambda) ≡ true → isFinite (this .norm) ≡ true → isFalling s fpOf ≡ true → P (trial this fpOf (stopped falling)))
@@ -146,7 +147,7 @@ some-trial p k s x e = absurd (by x (ap head (sym e) ∙ trials-head p k s))
 other-rule : {X : Type 0} (r : Run) (x : Stop) → r ≡ stopped x → (head r ≡ head (stopped x) → ⊥) → X
 other-rule r x e h = absurd (h (ap head e))
 
-no-stop : {X : Type 0} (q : Place) (x : Stop) → _≡_ {A = Stop ⊎ Place} (inr q) (inl x) → X
+pub no-stop : {X : Type 0} (q : Place) (x : Stop) → _≡_ {A = Stop ⊎ Place} (inr q) (inl x) → X
 no-stop q x e = absurd (true≢false (sym (ap stops e)))
   where
     stops : Stop ⊎ Place → Bool
@@ -211,23 +212,6 @@ each-counted p (suc k) s x =
     (λ a b c e. subst (λ (y : Stop). Counted (suc k) 1 y) (stop-same falling x e) (omega arith, omega arith))
     (λ a b e. no-stop correction x e)
     (λ a b e. one-more k _ x (each-counted p k _ x e))
-
--- ---- the stop rules, of a run after a trial t with its fp and the fp before it
-abbrev pub Ruled : Problem → Trial → Float → Float → Run → Type 0
-Ruled p t fp previous (stopped undamped) = ⊥
-Ruled p t fp previous (stopped ten) = ⊥
-Ruled p t fp previous (stopped within) = le (absOf fp) (band (p .radius)) ≡ true
-Ruled p t fp previous (stopped falling) = (eq (t .lower) plusZero ≡ true) × ((le fp previous ≡ true) × (isNegative previous ≡ true))
-Ruled p t fp previous (run.refused q) = Unit {0}
-Ruled p t fp previous (last u r) = Unit {0}
-Ruled p t fp previous (trial u f r) = Ruled p u f fp r
-
--- and before its first trial
-abbrev pub RuledFrom : Problem → Float → Run → Type 0
-RuledFrom p fp (stopped x) = ⊥
-RuledFrom p fp (run.refused q) = Unit {0}
-RuledFrom p fp (last u r) = Unit {0}
-RuledFrom p fp (trial u f r) = Ruled p u f fp r
 
 later-ruled : (p : Problem) (t : Trial) (fp previous : Float) (r : Run) → RuledFrom p fp r → Ruled p t fp previous r
 later-ruled p t fp previous (stopped x) h = absurd h

@@ -13,7 +13,7 @@ use Rattle.leaves.specs.Product.{productAll}
 use Rattle.leaves.specs.Vector.{axpyAll}
 use Rattle.leaves.specs.Triangle.{solvePlace, solveDown}
 use Rattle.leaves.proofs.Folds.{axpy-length}
-use Rattle.factor.specs.Room.{Room, Shaped}
+use Rattle.factor.specs.Room.{Room}
 use Rattle.leaves.specs.Square.{zeros, diagonal}
 use Rattle.factor.specs.Tests.{isPermutation}
 use Rattle.factor.specs.Solve.{scatter, gather, padded, rank, rRank, zeroSolved, backward, dampedSolved}
@@ -24,6 +24,7 @@ use Rattle.factor.proofs.Solves.{rank-most, gather-length}
 use Rattle.leaves.proofs.Products.{product-length}
 use Rattle.leaves.proofs.Squares.{diagonal-length}
 use Rattle.eliminate.proofs.Rotations.{turned-length, left-length}
+use Rattle.factor.specs.inner.Rooms.{Shaped}
 
 -- ---- two lists that are the same at every place
 same-places : (xs ys : List Float) → length xs ≡ length ys → ((i : ℕ) → i < length xs → getD xs i nan ≡ getD ys i nan) → xs ≡ ys
@@ -183,7 +184,7 @@ tri-length zero (r ∷ rs) t = absurd t
 tri-length (suc k) [] t = absurd t
 tri-length (suc k) (r ∷ rs) t = ap suc (tri-length k rs (t .1))
 
-started-even : (k : ℕ) (d : Float) (rows : List (List Float)) (bs : List Float) → Tri (suc k) rows → length bs ≡ suc k → Even (suc k) (started d rows bs)
+pub started-even : (k : ℕ) (d : Float) (rows : List (List Float)) (bs : List Float) → Tri (suc k) rows → length bs ≡ suc k → Even (suc k) (started d rows bs)
 unfolding started
 started-even k d rows bs t b = go (eq d plusZero)
   where
@@ -206,7 +207,7 @@ eliminated-even (suc k) (d ∷ ds) rows bs h t b =
     let e = started-even k d rows bs t b in
     onward-even k (λ rs cs. eliminated ds rs cs) (λ rs cs u v. eliminated-even k ds rs cs (omega arith) u v) (x .0) (x .1) (e .0) (e .1)
 
-rows-even : (j : ℕ) (us : List (List Float)) → Tri (length us) (rowsFrom j us)
+pub rows-even : (j : ℕ) (us : List (List Float)) → Tri (length us) (rowsFrom j us)
 unfolding rowsFrom
 rows-even j [] = tt
 rows-even j (u ∷ us) = (ap suc (length-map us _), rows-even (suc j) us)

@@ -8,7 +8,7 @@ use native.Mathlib.Nat.{mul-pos}
 use native.Mathlib.Omega.{arith}
 use lib.Dec.{eqb, ltb}
 use lib.IntN.{ℤ}
-use lib.Ieee.{Float, nan, inf, fin, binary64, up, down, unlike, odd, units, round, mul, div, lt, le, eq, isNan}
+use lib.Ieee.{Float, nan, inf, fin, binary64, up, down, below, level, unlike, odd, units, round, mul, div, lt, le, eq, isNan}
 use lib.Ieee.Fits.{up-pos, down-pos, round-is}
 use lib.Ieee.Scale.{round-same}
 use borrow.Author.Tests.{lt-ltb, le-ltb, eq-eqb, ne-eqb, ltb-true}
@@ -118,10 +118,6 @@ unfolding eq
 zero-equal true e = rw (eq-eqb (0 * up e * 1) (0 * down e) (omega arith), eq-eqb (0 * up e * 1) 0 (omega arith))
 zero-equal false e = rw (eq-eqb (0 * up e * 1) (0 * down e) (omega arith))
 
-or-true : (a b : Bool) → b ≡ true → (a || b) ≡ true
-or-true true b h = refl
-or-true false b h = h
-
 -- what is not below zero
 pub not-below : (x : Float) → lt x plusZero ≡ false → Clear x
 unfolding lt
@@ -147,6 +143,24 @@ not-at-most (fin true (suc m) e) (fin s n d) p h =
     let l : ltb 0 (suc m * up e * down d + n * up d * down e) ≡ true = lt-ltb 0 (suc m * up e * down d + n * up d * down e) (omega arith) in
     absurd (true≢false (rw (p, l) at h))
 
+-- and then its own sign is clear
+pub negative-le : (a b : ℕ) → (below true a false b || level true a false b) ≡ true
+negative-le zero zero = refl
+negative-le zero (suc b) = rw (lt-ltb 0 (0 + suc b) (omega arith))
+negative-le (suc a) b = rw (lt-ltb 0 (suc a + b) (omega arith))
+
+pub above-sign : (x b : Float) → Signed false b → le x b ≡ false → isNegative x ≡ false
+unfolding le lt eq isNegative
+above-sign nan b p h = refl
+above-sign (inf false) b p h = refl
+above-sign (fin false m e) b p h = refl
+above-sign (inf true) nan p h = absurd p
+above-sign (inf true) (inf s) p h = absurd (true≢false (rw p at h))
+above-sign (inf true) (fin s n d) p h = absurd (true≢false h)
+above-sign (fin true m e) nan p h = absurd p
+above-sign (fin true m e) (inf s) p h = absurd (true≢false (rw p at h))
+above-sign (fin true m e) (fin s n d) p h = absurd (true≢false (sym (negative-le (m * up e * down d) (n * up d * down e)) ∙ (rw p at h)))
+
 -- what is above a number that is not below zero
 pub above-clear : (a y : Float) → isFinite a ≡ true → Clear a → lt a y ≡ true → Clear y
 unfolding lt isFinite
@@ -161,19 +175,6 @@ above-clear (fin true m e) (fin true n d) f (inr h) l =
     let q = ltb-true (n * up d * down e) (m * up e * down d) l in
     let z : m * up e * down d ≡ 0 = rw h (omega arith) in
     absurd (omega arith)
-
--- what is not at most zero has a clear sign
-pub above-sign : (x : Float) → le x plusZero ≡ false → isNegative x ≡ false
-unfolding le lt eq isNegative
-above-sign nan h = refl
-above-sign (inf true) h = absurd (true≢false h)
-above-sign (inf false) h = refl
-above-sign (fin false m e) h = refl
-above-sign (fin true zero e) h = absurd (true≢false (sym (or-true (lt (fin true zero e) plusZero) (eq (fin true zero e) plusZero) (zero-equal true e)) ∙ h))
-above-sign (fin true (suc m) e) h =
-    let q : 0 < suc m * up e * 1 = above-zero m e 1 (omega arith) in
-    let l : ltb 0 (suc m * up e * 1 + 0 * down e) ≡ true = lt-ltb 0 (suc m * up e * 1 + 0 * down e) (omega arith) in
-    absurd (true≢false (rw l at h))
 
 -- ---- the larger and the smaller of two
 pub max-clear : (a b : Float) → Clear a → Clear b → Clear (maxOf a b)

@@ -14,7 +14,7 @@ use Rattle.search.specs.Bounds.{tenth, thousandth, band, lowerBound, gno
 use Rattle.search.specs.Run.{Next, Trial, next}
 use Rattle.search.proofs.Signs.{arms, Clear, over-twice, over-clear, over-norm, not-below, not-at-most, above-clear, above-sign, max-clear, min-clear, min-sign, max-finite, max-above, max-dwarf, clear-above, times-signed}
 
-tenth-is : tenth ≡ fin false 3602879701896397 (negsuc 54)
+pub tenth-is : tenth ≡ fin false 3602879701896397 (negsuc 54)
 unfolding tenth round
 tenth-is = refl
 
@@ -52,7 +52,7 @@ next-sound t fp c p f g l =
 
 module _ (p : Problem) (rf : isFinite (p .radius) ≡ true) (ra : le (p .radius) plusZero ≡ false) where
   radius-sign : isNegative (p .radius) ≡ false
-  radius-sign = above-sign (p .radius) ra
+  radius-sign = above-sign (p .radius) plusZero refl ra
 
   newton-clear : (fp slope : Float) → Clear fp → Clear (newton fp (p .radius) slope)
   unfolding newton

@@ -14,7 +14,7 @@ use Rattle.factor.specs.Room.{load}
 use Rattle.search.specs.Run.{Run, stopped, last, trial, runOf, undamped, ten, within, falling, undamped-norm, lower-bound, gradient-norm, trial-lambda, trial-norm, correction}
 use Rattle.search.specs.Run as run
 use Rattle.search.specs.Search.{searchCall, problemOf}
-use Rattle.search.specs.Opened.{opened}
+use Rattle.search.specs.inner.Opened.{opened}
 use Rattle.search.specs.declared.LMParameter.{LMParameter}
 
 -- whole numbers

@@ -13,13 +13,13 @@ use Rattle.leaves.specs.Root.{rootS}
 use Rattle.leaves.specs.Norm.{norm}
 use Rattle.leaves.specs.Vector.{scaleAll}
 use Rattle.leaves.specs.Product.{productAll}
-use Rattle.factor.specs.Room.{Room, Sized, Shaped, load, lay, emptied}
+use Rattle.factor.specs.Room.{Room, load, lay, emptied}
 use Rattle.leaves.specs.Square.{zeros}
 use Rattle.factor.specs.Tests.{isPermutation, tested}
 use Rattle.factor.specs.Solve.{zeroSolved, scatter, gather, nonSingular}
 use Rattle.eliminate.specs.Eliminate.{Rows, damping, heads, tails}
 use Rattle.factor.specs.Held.{mulUpper, heldSolved, heldProduct}
-use Rattle.factor.specs.Outcome.{written, Read, read, Left, left}
+use Rattle.factor.specs.Outcome.{written, Read, read, Left, leftIn}
 use Rattle.factor.specs.Solves as solves
 use Rattle.factor.specs.PivotOrder.{lowered, zeroIn, dampedIn, heldZeroIn, heldDampedIn, productIn, fullRank, emptyIn}
 use Rattle.factor.specs.declared.state.State.{State}
@@ -35,10 +35,11 @@ use Rattle.factor.proofs.PivotOrders.{zero-in-passed, damped-in-passed, held-ze
 use Rattle.search.specs.Problem.{Problem, placed, undampedStep, dampedRows, dampedStep, scaledStep}
 use Rattle.search.specs.Search.{problemOf}
 use Rattle.search.specs.Bounds.{quotients, gnorm}
-use Rattle.search.specs.Read.{Ready, turnedBy}
+use Rattle.search.specs.inner.Read.{Ready, turnedBy}
 use Rattle.search.proofs.Lists.{by-scaling}
 use Rattle.search.proofs.Shapes.{zero-length, damped-length, upper-length, lower-length, mul-length, gathered-even, Even, placed-scaled}
 use Rattle.leaves.proofs.Insides.{Inside, one-row}
+use Rattle.factor.specs.inner.Rooms.{Sized, Shaped}
 
 module _ (st : State) (store : List Float) (order : List ℕ) (e : Ready st store order) where
   abbrev room : Room
@@ -148,23 +149,23 @@ module _ (st : State) (store : List Float) (order : List ℕ) (e : Ready st stor
       worked-by : damping (take (st .n) ds) (room .upper) (room .qtb) ≡ given
       worked-by = ap (λ (x : List Float). damping x (room .upper) (room .qtb)) (take-all (st .n) ds (omega (arith, ds-long)) ∙ es)
 
-      damped-worked : dampedIn (st .n) ds store w ≡ left (answered tt) (lay (lowered given room)) (written (solves.dampedStep given) w)
+      damped-worked : dampedIn (st .n) ds store w ≡ leftIn (answered tt) (lay (lowered given room)) (written (solves.dampedNumbers given) w)
       damped-worked =
           damped-in-passed (st .n) ds store w (tests-at (min (length ds) (length w)) (omega (arith, ds-long)))
-          ∙ ap (λ (x : Rows). left (answered tt) (lay (lowered x room)) (written (solves.dampedStep x) w)) worked-by
+          ∙ ap (λ (x : Rows). leftIn (answered tt) (lay (lowered x room)) (written (solves.dampedNumbers x) w)) worked-by
 
-      module _ {a : Reply (Unit {0})} {s′ w′ : List Float} (h : left a s′ w′ ≡ dampedIn (st .n) ds store w) where
+      module _ {a : Reply (Unit {0})} {s′ w′ : List Float} (h : leftIn a s′ w′ ≡ dampedIn (st .n) ds store w) where
         pub damped-store : (radius : Float) → s′ ≡ lay (lowered (dampedRows (asked radius) lambda) room)
         damped-store radius = ap (λ (x : Left). x .store) (h ∙ damped-worked) ∙ ap (λ (x : Rows). lay (lowered x room)) (rows-are radius)
 
-        pub damped-numbers : w′ ≡ solves.dampedStep given
+        pub damped-numbers : w′ ≡ solves.dampedNumbers given
         damped-numbers =
             ap (λ (x : Left). x .out) (h ∙ damped-worked)
-            ∙ written-whole (solves.dampedStep given) w (damped-length (heads (given .0)) (tails (given .0)) (given .1) ∙ rows-even .1 ∙ sym wl)
+            ∙ written-whole (solves.dampedNumbers given) w (damped-length (heads (given .0)) (tails (given .0)) (given .1) ∙ rows-even .1 ∙ sym wl)
 
         pub damped-placed : (radius : Float) → placed (asked radius) w′ ≡ dampedStep (asked radius) lambda
         unfolding dampedStep
-        damped-placed radius = ap (placed (asked radius)) damped-numbers ∙ ap (λ (x : Rows). placed (asked radius) (solves.dampedStep x)) (rows-are radius)
+        damped-placed radius = ap (placed (asked radius)) damped-numbers ∙ ap (λ (x : Rows). placed (asked radius) (solves.dampedNumbers x)) (rows-are radius)
 
   -- ---- the rank, and the room that a search leaves
   pub rank-told : {a : Reply Bool} → a ≡ fullRank (st .m) (st .n) store → a ≡ answered (nonSingular (st .m) (st .n) (room .upper))

@@ -1,13 +1,14 @@
--- What the contracts of `search` cite: module 7 of document 01.
-pub mod Problem
-pub mod Bounds
-pub mod Run
+-- What the public contract of `search` cites: module 7 of document 01. The call first, then its run, bounds and steps.
 pub mod Search
-pub mod Read
--- MINPACK-1, in its own terms.
-pub mod Enorm
-pub mod Qrsolv
-pub mod Lmpar
--- What the theorems on the demands speak of.
+pub mod Run
+pub mod Bounds
+pub mod Problem
+pub mod Answers
+-- What the demands say of it: how a run ends, and MINPACK-1 in its own terms.
 pub mod Ending
-pub mod Opened
+pub mod Against
+pub mod Lmpar
+pub mod Qrsolv
+pub mod Enorm
+-- What only inner functions, laws and examples cite stands apart: nobody need believe it.
+pub mod inner

@@ -10,7 +10,7 @@ ghost use Rattle.leaves.specs.Number.{absOf};
 ghost use Rattle.search.specs.Problem.{newton};
 ghost use Rattle.search.specs.Bounds.{band, upperBound, firstLambda, raised};
 ghost use Rattle.search.specs.Run.{isFalling, next};
-ghost use Rattle.search.specs.Read.{nextOf, bare};
+ghost use Rattle.search.specs.inner.Read.{nextOf, bare};
 
 // What one trial hands to the next: its lambda, the bounds, and fp of the trial before.
 pub(crate) struct Going {

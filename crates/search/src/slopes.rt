@@ -16,7 +16,7 @@ ghost use Rattle.factor.specs.Held.{heldSolved};
 ghost use Rattle.factor.specs.declared.state.Held.the-variants as held;
 ghost use Rattle.search.specs.Problem.{newton};
 ghost use Rattle.search.specs.Bounds.{gnorm};
-ghost use Rattle.search.specs.Read.{lent, Ready, turnedBy};
+ghost use Rattle.search.specs.inner.Read.{lent, Ready, turnedBy};
 
 // The norm of what the held solve makes of the scaled step v, whose norm is given: after a zero solve, and after a damped one. They are
 // two, so that each is compiled where it is called.

@@ -13,7 +13,7 @@ ghost use Rattle.factor.specs.Room.{load, lay, emptied};
 ghost use Rattle.factor.specs.Solve.{nonSingular};
 ghost use Rattle.factor.specs.PivotOrder.{lowered};
 ghost use Rattle.search.specs.Problem.{placed, undampedStep, dampedRows, dampedStep, scaledStep};
-ghost use Rattle.search.specs.Read.{lent, Ready};
+ghost use Rattle.search.specs.inner.Read.{lent, Ready};
 
 // The undamped step.
 pub(crate) fn undamped(

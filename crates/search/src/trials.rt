@@ -22,7 +22,7 @@ ghost use Rattle.search.specs.declared.trust_region.Found.the-variants a
 ghost use Rattle.search.specs.Problem.{placed, scaledStep};
 ghost use Rattle.search.specs.Run.{trialsFrom};
 ghost use Rattle.search.specs.Search.{concluded};
-ghost use Rattle.search.specs.Read.{lent, Ready, withStep, unanswered, nextOf, damped as dampedRun};
+ghost use Rattle.search.specs.inner.Read.{lent, Ready, withStep, unanswered, nextOf, damped as dampedRun};
 
 // An answer, but for its step.
 fn told(lambda: f64, norm: f64, trials: usize) -> Found

@@ -18,7 +18,8 @@ ghost use Rattle.factor.specs.State.{withHeld};
 ghost use Rattle.factor.specs.declared.state.Held.the-variants.{Nothing};
 ghost use Rattle.search.specs.Problem.{placed};
 ghost use Rattle.search.specs.Search.{answerOf, searched, searchCall};
-ghost use Rattle.search.specs.Read.{lent, Ready, foundOf, withStep};
+ghost use Rattle.search.specs.inner.Read.{lent, Ready, withStep};
+ghost use Rattle.search.specs.Answers.{foundOf};
 
 // Lambda, scaled norm and the trials run, or the number of a refusal.
 pub enum Found {

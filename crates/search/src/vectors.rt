@@ -7,7 +7,7 @@ ghost use Rattle.leaves.specs.Vector.{scaleAll};
 ghost use Rattle.leaves.specs.Product.{productAll};
 ghost use Rattle.factor.specs.Solve.{gather, scatter};
 ghost use Rattle.search.specs.Bounds.{quotients};
-ghost use Rattle.search.specs.Read.{turnedBy};
+ghost use Rattle.search.specs.inner.Read.{turnedBy};
 
 pub(crate) fn norm_of(v: &[f64]) -> f64
     requires { ⌜ length (now v) ≤ 128 ⌝ }

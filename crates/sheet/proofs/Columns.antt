@@ -23,7 +23,7 @@ use Rattle.factor.proofs.Answered.{answered-state}
 use Rattle.search.specs.declared.LMParameter.{LMParameter}
 use Rattle.sheet.specs.Sheet.{Task, search, start, Job, headOf, jobOf}
 use Rattle.sheet.specs.Tests.{unknown, numbersOf, sheetTests}
-use Rattle.sheet.specs.Fit.{Fit, searched, started, Told, told, mapped, bySearch, byDetermined, soughtFrom, byScaling, startedFrom, taskFrom, byFactoring, workedIn, worked, sheetCall}
+use Rattle.sheet.specs.Fit.{Fit, searched, started, Finished, finished, mapped, bySearch, byDetermined, soughtFrom, byScaling, startedFrom, taskFrom, byFactoring, workedIn, worked, sheetCall}
 use Rattle.sheet.specs.Lines.{columnTests, linesTests}
 use Rattle.sheet.specs.declared.answer.Fitted.{Fitted}
 
@@ -111,7 +111,7 @@ unfolding sheetCall firstOf jobOf
 sheet-lines-free s step = by (eqb (firstOf (sheetTests s (length step))) 0) refl
   where
     by : (b : Bool) → eqb (firstOf (sheetTests s (length step))) 0 ≡ b
-        → (let u : Told Fit = elim b [ true ↦ worked (jobOf (headOf s) (numbersOf (headOf s) s)) step | false ↦ told (refused (firstOf (sheetTests s (length step)))) step ] in firstOf (linesTests (u .reply) 16) ≡ 0)
+        → (let u : Finished Fit = elim b [ true ↦ worked (jobOf (headOf s) (numbersOf (headOf s) s)) step | false ↦ finished (refused (firstOf (sheetTests s (length step)))) step ] in firstOf (linesTests (u .reply) 16) ≡ 0)
     by true e =
         let i = inside (headOf s .m) (headOf s .n) (passed-sizes s (length step) (eqb-true (firstOf (sheetTests s (length step))) 0 e)) in
         lines-free (headOf s .n) (worked (jobOf (headOf s) (numbersOf (headOf s) s)) step .reply) (i .cols-some) (i .cols-few) (worked-has (jobOf (headOf s) (numbersOf (headOf s) s)) step)

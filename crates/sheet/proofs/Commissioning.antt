@@ -18,7 +18,7 @@ use Rattle.factor.specs.Outcome.{Ended}
 use Rattle.search.specs.Search.{searchCall}
 use Rattle.search.specs.declared.LMParameter.{LMParameter}
 use Rattle.sheet.specs.Lines.{sheetText}
-use Rattle.sheet.specs.Opened.{opened}
+use Rattle.sheet.specs.inner.Opened.{opened}
 
 -- whole numbers, and rooms full of junk
 abbrev w : ℕ → Float

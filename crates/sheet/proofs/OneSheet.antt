@@ -12,7 +12,7 @@ use native.Mathlib.Omega.{arith}
 use Rattle.leaves.specs.Reply.{Reply}
 use Rattle.leaves.specs.declared.reply.Place.{Place}
 use Rattle.leaves.proofs.Replies.{answered-refused, refused-answered, answered-same, refused-same, placeOf-same}
-use Rattle.sheet.specs.Fit.{Fit, searched, started, Told, answerOf}
+use Rattle.sheet.specs.Fit.{Fit, searched, started, Finished, fitOf}
 use Rattle.sheet.specs.declared.answer.Fitted.{Fitted}
 use Rattle.sheet.specs.declared.answer.Started.{Started}
 use Rattle.sheet.specs.declared.answer.Answer.{Answer}
@@ -42,7 +42,7 @@ started-same {q} {r} {f} {g} e =
 other : {f g : Fitted} {r : Float} {A : Type 0} → searched f ≡ started r g → A
 other e = absurd (let z : _≡_ {A = ℕ} 0 1 = cc in omega arith)
 
-answerOf-same : (r t : Answer) → answerOf r ≡ answerOf t → r ≡ t
+answerOf-same : (r t : Answer) → fitOf r ≡ fitOf t → r ≡ t
 answerOf-same (answer.Searched f) (answer.Searched g) e = ap answer.Searched (searched-same (answered-same e))
 answerOf-same (answer.Searched f) (answer.Started g) e = other (answered-same e)
 answerOf-same (answer.Searched f) (answer.Refused k) e = answered-refused e
@@ -56,7 +56,7 @@ answerOf-same (answer.Refused j) (answer.Refused k) e = ap answer.Refused (refus
 pub fit-one-outcome : (κs : Lfts 2) (a : ArgsD fit-signature κs) (r₁ r₂ : Answer) (s₁ s₂ : AtExit (endedOf 2 fit-kinds.ps fit-kinds.r) κs) → fit.Post κs a r₁ s₁ → fit.Post κs a r₂ s₂
     → (r₁ ≡ r₂) × (now (s₁ .1 .0) ≡ now (s₂ .1 .0))
 fit-one-outcome κs a r₁ r₂ s₁ s₂ p q =
-    let e = p ∙ sym q in (answerOf-same r₁ r₂ (ap (λ (x : Told Fit). x .reply) e), ap (λ (x : Told Fit). x .step) e)
+    let e = p ∙ sym q in (answerOf-same r₁ r₂ (ap (λ (x : Finished Fit). x .reply) e), ap (λ (x : Finished Fit). x .step) e)
 
 pub write-lines-one-outcome : (κs : Lfts 2) (a : ArgsD write-lines-signature κs) (r₁ r₂ : Place) (s₁ s₂ : AtExit (endedOf 2 write-lines-kinds.ps write-lines-kinds.r) κs) → write-lines.Post κs a r₁ s₁ → write-lines.Post κs a r₂ s₂
     → (r₁ ≡ r₂) × (now (s₁ .1 .1 .0) ≡ now (s₂ .1 .1 .0))

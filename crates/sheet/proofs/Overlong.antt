@@ -16,7 +16,7 @@ use Rattle.leaves.proofs.Insides.{inside, jacobian-small}
 use Rattle.leaves.proofs.Refusals.{test-passed, call-refused}
 use Rattle.sheet.specs.Sheet.{headOf, lasts, countOf, lengthOf, jobOf}
 use Rattle.sheet.specs.Tests.{unknown, numberTests, numbersOf, sheetTests}
-use Rattle.sheet.specs.Fit.{Fit, Told, told, worked, sheetCall}
+use Rattle.sheet.specs.Fit.{Fit, Finished, finished, worked, sheetCall}
 use Rattle.sheet.specs.Lines.{linesOf, sheetText}
 use Rattle.sheet.specs.declared.head.Head.{Head}
 
@@ -60,10 +60,10 @@ module _ (s : List ℕ) (long : 17555 < length s) where
       test-passed _ _ (le-ltb (length s) 3 (omega arith))
       ∙ tests-stop (unknown (headOf s)) (outside (headOf s .m) (headOf s .n)) _ (numberTests (headOf s) (numbersOf (headOf s) s)) (too-long room)
 
-  refused-long : (step : List Float) → told (refused (number (headOf s))) step ≡ sheetCall s step
+  refused-long : (step : List Float) → finished (refused (number (headOf s))) step ≡ sheetCall s step
   unfolding sheetCall
   refused-long step =
-      call-refused (worked (jobOf (headOf s) (numbersOf (headOf s) s)) step) (λ (k : ℕ). told (refused k) step) (sheetTests s (length step)) (number (headOf s)) (met (length step)) (some-number (unknown (headOf s)) (outside (headOf s .m) (headOf s .n)))
+      call-refused (worked (jobOf (headOf s) (numbersOf (headOf s) s)) step) (λ (k : ℕ). finished (refused k) step) (sheetTests s (length step)) (number (headOf s)) (met (length step)) (some-number (unknown (headOf s)) (outside (headOf s .m) (headOf s .n)))
 
 same-head : (s : List ℕ) (k : ℕ) → 3 ≤ k → headOf (take k s) ≡ headOf s
 unfolding headOf
@@ -75,6 +75,6 @@ overlong s h =
     let l : length (take 17556 s) ≡ 17556 = length-take-le 17556 s (omega arith) in
     let e : sheetCall (take 17556 s) (zeros 16) ≡ sheetCall s (zeros 16)
     = sym (refused-long (take 17556 s) (omega arith) (zeros 16))
-    ∙ ap (λ (x : Head). told (refused (number x)) (zeros 16)) (same-head s 17556 (omega arith))
+    ∙ ap (λ (x : Head). finished (refused (number x)) (zeros 16)) (same-head s 17556 (omega arith))
     ∙ refused-long s h (zeros 16) in
-    ap (λ (t : Told Fit). linesOf (t .reply) (t .step)) e
+    ap (λ (t : Finished Fit). linesOf (t .reply) (t .step)) e

@@ -13,11 +13,12 @@ use lib.Ieee.{Float}
 use Rattle.leaves.specs.Reply.{Reply, refused}
 use Rattle.leaves.specs.Square.{zeros}
 use Rattle.leaves.specs.Tests.{firstOf}
-use Rattle.leaves.proofs.Refusals.{NoneHold, passed-iff, call-refused, call-worked}
-use Rattle.sheet.specs.Fit.{Fit, Told, told, sheetCall}
+use Rattle.leaves.proofs.Refusals.{passed-iff, call-refused, call-worked}
+use Rattle.sheet.specs.Fit.{Fit, Finished, finished, sheetCall}
 use Rattle.sheet.specs.Lines.{linesOf, sheetText, columnTests, linesTests, printed, linesCall, textCall}
-use Rattle.sheet.specs.Inner.{put}
+use Rattle.sheet.specs.inner.Handed.{put}
 use Rattle.sheet.proofs.Columns.{sheet-lines-free}
+use Rattle.leaves.specs.Refusing.{NoneHold}
 
 second : (a b : Bool) → (a || b) ≡ false → b ≡ false
 second true b h = absurd (true≢false h)
@@ -50,13 +51,13 @@ module _ (a : Reply Fit) (step : List Float) (text : List ℕ) {c : ℕ} (e : c 
       h ∙ ap (λ (x : List ℕ). printed x text) g ∙ call-worked (printed (linesOf a step) text) refusal (linesTests a (length step)) (sym e ∙ z)
 
 -- a sheet's answer, printed: no test of its lines is met
-pub sheet-printed : (s text : List ℕ) {a : Reply Fit} {old step : List Float} {r : Reply ℕ × List ℕ} → old ≡ zeros 16 → told a step ≡ sheetCall s old → length step ≡ length old → r ≡ linesCall a step text
+pub sheet-printed : (s text : List ℕ) {a : Reply Fit} {old step : List Float} {r : Reply ℕ × List ℕ} → old ≡ zeros 16 → finished a step ≡ sheetCall s old → length step ≡ length old → r ≡ linesCall a step text
     → r ≡ textCall s text
 unfolding textCall sheetText linesCall
 sheet-printed s text {a} {old} {step} z e l h =
     let n : length step ≡ 16 = l ∙ ap length z in
     let f : firstOf (linesTests a (length step)) ≡ 0
-    = ap (λ (k : ℕ). firstOf (linesTests a k)) n ∙ ap (λ (t : Told Fit). firstOf (linesTests (t .reply) 16)) e ∙ sheet-lines-free s old in
+    = ap (λ (k : ℕ). firstOf (linesTests a k)) n ∙ ap (λ (t : Finished Fit). firstOf (linesTests (t .reply) 16)) e ∙ sheet-lines-free s old in
     h
     ∙ sym (call-worked (printed (linesOf a step) text) (λ (k : ℕ). (refused k, text)) (linesTests a (length step)) f)
-    ∙ ap (λ (t : Told Fit). printed (linesOf (t .reply) (t .step)) text) (e ∙ ap (sheetCall s) z)
+    ∙ ap (λ (t : Finished Fit). printed (linesOf (t .reply) (t .step)) text) (e ∙ ap (sheetCall s) z)

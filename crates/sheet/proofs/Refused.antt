@@ -1,5 +1,6 @@
--- 01, 'Refusal numbers, tested in this order', of a sheet: refused k exactly when k's condition holds and none earlier, worked where none holds;
--- and a sheet for each number, computed. Assumes nothing.
+-- 01, 'Refusal numbers, tested in this order', of a sheet: refused k where k's condition holds and none earlier, worked where none holds; and a
+-- sheet for each number, computed. That a working is refused by no number of these, and so the other direction, stands on top, in `demands`.
+-- Assumes nothing.
 use Prim.Native.Nat.{ℕ, _<_}
 use mathlib.Core.Path.{_≡_, refl}
 use mathlib.Core.Bool.{true}
@@ -11,36 +12,37 @@ use lib.ListN.{length, replicate}
 use lib.Ieee.{Float}
 use Rattle.leaves.specs.Reply.{refused}
 use Rattle.leaves.specs.Tests.{firstOf}
-use Rattle.leaves.proofs.Refusals.{NoneHold, RefusedBy, numbered, refused-iff, passed-iff, call-refused, call-worked}
+use Rattle.leaves.proofs.Refusals.{numbered, refused-iff, passed-iff, call-refused, call-worked}
 use Rattle.sheet.specs.Sheet.{Task, search, start, headOf, jobOf}
 use Rattle.sheet.specs.Tests.{taskTests, numbersOf, sheetTests}
-use Rattle.sheet.specs.Fit.{Fit, Told, told, worked, sheetCall}
+use Rattle.sheet.specs.Fit.{Fit, Finished, finished, worked, sheetCall}
 use Rattle.sheet.specs.Lines.{sheetText}
-use Rattle.sheet.specs.Opened.{opened}
+use Rattle.sheet.specs.inner.Opened.{opened}
+use Rattle.leaves.specs.Refusing.{NoneHold, RefusedBy}
 
 task-numbered : (t : Task) → numbered (taskTests t) ≡ true
 task-numbered (search diag radius lambda) = refl
 task-numbered (start x bound) = refl
 
 module _ (s : List ℕ) (step : List Float) where
-  all-numbered : numbered (sheetTests s (length step)) ≡ true
+  pub all-numbered : numbered (sheetTests s (length step)) ≡ true
   unfolding sheetTests
   all-numbered = task-numbered (jobOf (headOf s) (numbersOf (headOf s) s) .task)
 
-  abbrev whole : Told Fit
+  abbrev whole : Finished Fit
   whole = worked (jobOf (headOf s) (numbersOf (headOf s) s)) step
 
   pub tested-iff : (k : ℕ) → 0 < k → (firstOf (sheetTests s (length step)) ≡ k) ↔ RefusedBy (sheetTests s (length step)) k
   tested-iff k p = refused-iff (sheetTests s (length step)) k p
 
-  pub sheet-is-refused : (k : ℕ) → 0 < k → RefusedBy (sheetTests s (length step)) k → told (refused k) step ≡ sheetCall s step
+  pub sheet-is-refused : (k : ℕ) → 0 < k → RefusedBy (sheetTests s (length step)) k → finished (refused k) step ≡ sheetCall s step
   unfolding sheetCall
   sheet-is-refused k p r =
-      call-refused whole (λ (j : ℕ). told (refused j) step) (sheetTests s (length step)) k (tested-iff k p .1 r) (ne-eqb k 0 (λ e. omega arith))
+      call-refused whole (λ (j : ℕ). finished (refused j) step) (sheetTests s (length step)) k (tested-iff k p .1 r) (ne-eqb k 0 (λ e. omega arith))
 
   pub sheet-is-worked : NoneHold (sheetTests s (length step)) → whole ≡ sheetCall s step
   unfolding sheetCall
-  sheet-is-worked h = call-worked whole (λ (j : ℕ). told (refused j) step) (sheetTests s (length step)) (passed-iff (sheetTests s (length step)) all-numbered .1 h)
+  sheet-is-worked h = call-worked whole (λ (j : ℕ). finished (refused j) step) (sheetTests s (length step)) (passed-iff (sheetTests s (length step)) all-numbered .1 h)
 
 -- ---- a sheet for each number
 abbrev zero8 : List ℕ

@@ -11,10 +11,10 @@ use lib.ListN.{length, set, drop, getD, length-append, drop-of-length-le}
 use lib.Seq.{sets, sets-eq, length-sets, drop-cons}
 use lib.Ieee.{Float, nan}
 use Rattle.leaves.specs.Reply.{answered, refused}
-use Rattle.text.specs.Put.{placesFrom, placesOf, decimalOf, placed}
+use Rattle.text.specs.Put.{placesFrom, placesOf, decimalOf, stored}
 use Rattle.text.proofs.Places.{digits-length}
 use Rattle.sheet.specs.Lines.{line, double, stepWord, stepLines, printed}
-use Rattle.sheet.specs.Inner.{put}
+use Rattle.sheet.specs.inner.Handed.{put}
 
 -- ---- one after the other
 sets-join : (a b l : List ℕ) (at : ℕ) → sets (sets l at a) (at + length a) b ≡ sets l at (a ++ b)
@@ -27,11 +27,11 @@ put-put a b l at e f =
     f ∙ ap (λ (x : ℕ × List ℕ). put b (x .0) (x .1)) e ∙ ap (λ (k : ℕ). (k, sets (sets l at a) (at + length a) b)) z ∙ ap (λ (k : List ℕ). (at + length (a ++ b), k)) (sets-join a b l at)
 
 -- what fits lands
-pub lands : (a l : List ℕ) (at : ℕ) {r : ℕ × List ℕ} → r ≡ placed a at l → at + length a ≤ length l → r ≡ put a at l
-unfolding placed
+pub lands : (a l : List ℕ) (at : ℕ) {r : ℕ × List ℕ} → r ≡ stored a at l → at + length a ≤ length l → r ≡ put a at l
+unfolding stored
 lands a l at e h = e ∙ rw (le-leb _ _ h)
 
-pub lands-next : (a b l : List ℕ) (at : ℕ) {p : ℕ} {m : List ℕ} {r : ℕ × List ℕ} → (p, m) ≡ put a at l → r ≡ placed b p m → at + length a + length b ≤ length l → r ≡ put (a ++ b) at l
+pub lands-next : (a b l : List ℕ) (at : ℕ) {p : ℕ} {m : List ℕ} {r : ℕ × List ℕ} → (p, m) ≡ put a at l → r ≡ stored b p m → at + length a + length b ≤ length l → r ≡ put (a ++ b) at l
 lands-next a b l at {p} {m} e f h =
     let q : p ≡ at + length a = ap (λ (x : ℕ × List ℕ). x .0) e in
     let n : length m ≡ length l = ap (λ (x : ℕ × List ℕ). length (x .1)) e ∙ length-sets l at a in
@@ -80,7 +80,7 @@ pub print-short : (a l : List ℕ) → length l < length a → (refused 3, l) �
 unfolding printed
 print-short a l h = rw (lt-leb _ _ h, printed)
 
-pub print-all : (a l : List ℕ) {p : ℕ} {m : List ℕ} → length a ≤ length l → (p, m) ≡ placed a 0 l → (answered (length a), m) ≡ printed a l
+pub print-all : (a l : List ℕ) {p : ℕ} {m : List ℕ} → length a ≤ length l → (p, m) ≡ stored a 0 l → (answered (length a), m) ≡ printed a l
 unfolding printed
 print-all a l {m = m} h e =
     let z : 0 + length a ≡ length a = omega arith in

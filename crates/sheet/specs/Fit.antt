@@ -21,8 +21,6 @@ use Rattle.search.specs.declared.LMParameter.{LMParameter}
 use Rattle.sheet.specs.Sheet.{Task, search, start, Job, headOf, jobOf}
 use Rattle.sheet.specs.Tests.{numbersOf, sheetTests}
 use Rattle.sheet.specs.declared.answer.Fitted.{Fitted}
-use Rattle.sheet.specs.declared.seek.Sought.{Sought}
-use Rattle.sheet.specs.declared.seek.Sought.the-variants as sought
 use Rattle.sheet.specs.declared.answer.Answer.{Answer}
 use Rattle.sheet.specs.declared.answer.Answer.the-variants as answer
 
@@ -31,36 +29,31 @@ pub data Fit : Type 0 where
   searched : Fitted → Fit
   started : Float → Fitted → Fit
 
--- 01, 'Refusal numbers': the code's answers, read as answered or refused
-abbrev pub soughtOf : Sought → Reply Fitted
-soughtOf (sought.Found f) = answered f
-soughtOf (sought.Refused k) = refused k
-
-abbrev pub answerOf : Answer → Reply Fit
-answerOf (answer.Searched f) = answered (searched f)
-answerOf (answer.Started t) = answered (started (t .radius) (t .fitted))
-answerOf (answer.Refused k) = refused k
+abbrev pub fitOf : Answer → Reply Fit
+fitOf (answer.Searched f) = answered (searched f)
+fitOf (answer.Started t) = answered (started (t .radius) (t .fitted))
+fitOf (answer.Refused k) = refused k
 
 -- an answer, and the lent step after it
-pub record Told (A : Type 0) : Type 0 where
+pub record Finished (A : Type 0) : Type 0 where
   pub reply : Reply A
   pub step : List Float
 
-abbrev pub told : {A : Type 0} → Reply A → List Float → Told A
-told a step = record { reply = a; step = step }
+abbrev pub finished : {A : Type 0} → Reply A → List Float → Finished A
+finished a step = record { reply = a; step = step }
 
 -- ---- determined, then the search
 
-abbrev pub bySearch : ℕ → ℕ → Reply LMParameter → List Float → Told Fitted
+abbrev pub bySearch : ℕ → ℕ → Reply LMParameter → List Float → Finished Fitted
 bySearch n d (answered p) out =
-    told (answered (record { columns = n; lambda = p .lambda; norm = p .«dp_norm»; trials = p .trials; determined = d })) out
-bySearch n d (refused k) out = told (refused k) out
+    finished (answered (record { columns = n; lambda = p .lambda; norm = p .«dp_norm»; trials = p .trials; determined = d })) out
+bySearch n d (refused k) out = finished (refused k) out
 
-abbrev pub byDetermined : ℕ → Reply ℕ → Ended LMParameter → List Float → Told Fitted
+abbrev pub byDetermined : ℕ → Reply ℕ → Ended LMParameter → List Float → Finished Fitted
 byDetermined n (answered d) s step = bySearch n d (s .reply) (s .out)
-byDetermined n (refused k) s step = told (refused k) step
+byDetermined n (refused k) s step = finished (refused k) step
 
-unfoldable pub soughtFrom : State → List ℕ → List Float → Float → Float → List Float → List Float → Told Fitted
+unfoldable pub soughtFrom : State → List ℕ → List Float → Float → Float → List Float → List Float → Finished Fitted
 soughtFrom st order diag radius lambda store step =
     let d = determinedCall st store in
     byDetermined (st .n) (d .reply) (searchCall st order diag radius lambda (d .store) step) step
@@ -72,39 +65,39 @@ mapped f (answered a) = answered (f a)
 mapped f (refused k) = refused k
 
 -- A first scaling never answers as a later one does: `starts` in `proofs/Starting.antt`.
-abbrev pub byScaling : State → List ℕ → Reply Scaled → List Float → List Float → List Float → Told Fit
+abbrev pub byScaling : State → List ℕ → Reply Scaled → List Float → List Float → List Float → Finished Fit
 byScaling st order (answered (first t)) diag store step =
-    let a = soughtFrom st order diag (t .radius) plusZero store step in told (mapped (started (t .radius)) (a .reply)) (a .step)
-byScaling st order (answered later) diag store step = told (refused 8) step
-byScaling st order (refused k) diag store step = told (refused k) step
+    let a = soughtFrom st order diag (t .radius) plusZero store step in finished (mapped (started (t .radius)) (a .reply)) (a .step)
+byScaling st order (answered later) diag store step = finished (refused 8) step
+byScaling st order (refused k) diag store step = finished (refused k) step
 
-unfoldable pub startedFrom : State → List ℕ → List Float → Float → List Float → List Float → Told Fit
+unfoldable pub startedFrom : State → List ℕ → List Float → Float → List Float → List Float → Finished Fit
 startedFrom st order x bound store step =
     let s = scalingCall st mode.FirstScaled (zeros 16) x bound store in
     byScaling st order (s .reply) (s .out) (s .store) step
 
 -- ---- the whole sheet
 
-unfoldable pub taskFrom : Task → State → List ℕ → List Float → List Float → Told Fit
+unfoldable pub taskFrom : Task → State → List ℕ → List Float → List Float → Finished Fit
 taskFrom (search diag radius lambda) st order store step =
-    let a = soughtFrom st order diag radius lambda store step in told (mapped searched (a .reply)) (a .step)
+    let a = soughtFrom st order diag radius lambda store step in finished (mapped searched (a .reply)) (a .step)
 taskFrom (start x bound) st order store step = startedFrom st order x bound store step
 
-abbrev pub byFactoring : Task → Reply (Unit {0}) → State → List ℕ → List Float → List Float → Told Fit
+abbrev pub byFactoring : Task → Reply (Unit {0}) → State → List ℕ → List Float → List Float → Finished Fit
 byFactoring task (answered u) st order store step = taskFrom task st order store step
-byFactoring task (refused k) st order store step = told (refused k) step
+byFactoring task (refused k) st order store step = finished (refused k) step
 
-unfoldable pub workedIn : Job → List Float → List ℕ → List Float → List Float → Told Fit
+unfoldable pub workedIn : Job → List Float → List ℕ → List Float → List Float → Finished Fit
 workedIn j store order bench step =
     let f = factorCall (j .m) (j .n) (j .jacobian) (j .residuals) store order bench in
     byFactoring (j .task) (f .reply) (f .state) (f .order) (f .store) step
 
 -- in rooms for the largest problem
-unfoldable pub worked : Job → List Float → Told Fit
+unfoldable pub worked : Job → List Float → Finished Fit
 worked j step = workedIn j (zeros 320) (replicate 16 0) (zeros 2176) step
 
-unfoldable pub sheetCall : List ℕ → List Float → Told Fit
+unfoldable pub sheetCall : List ℕ → List Float → Finished Fit
 sheetCall s step =
     let c = firstOf (sheetTests s (length step)) in
     let h = headOf s in
-    elim (eqb c 0) [ true ↦ worked (jobOf h (numbersOf h s)) step | false ↦ told (refused c) step ]
+    elim (eqb c 0) [ true ↦ worked (jobOf h (numbersOf h s)) step | false ↦ finished (refused c) step ]

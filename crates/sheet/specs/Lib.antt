@@ -1,7 +1,7 @@
--- What the contracts of `sheet` cite: document 01's job sheet, its tests, its working and its lines.
-pub mod Sheet
-pub mod Tests
-pub mod Fit
+-- What the public contracts of `sheet` cite: document 01's job sheet. The lines and the call first, then its working, its tests and its fields.
 pub mod Lines
-pub mod Inner
-pub mod Opened
+pub mod Fit
+pub mod Tests
+pub mod Sheet
+-- What only inner functions, laws and examples cite stands apart: nobody need believe it.
+pub mod inner

@@ -19,8 +19,8 @@ ghost use lib.ListN.{length};
 ghost use Rattle.leaves.specs.Tests.{outside, firstOf};
 ghost use Rattle.sheet.specs.Sheet.{countOf, lengthOf, lasts, taskOf, jobOf};
 ghost use Rattle.sheet.specs.Tests.{fieldTests};
-ghost use Rattle.sheet.specs.Fit.{answerOf, told, taskFrom, workedIn, worked, sheetCall};
-ghost use Rattle.sheet.specs.Inner.{numbersCall};
+ghost use Rattle.sheet.specs.Fit.{fitOf, finished, taskFrom, workedIn, worked, sheetCall};
+ghost use Rattle.sheet.specs.inner.Handed.{numbersCall};
 
 // What stands behind the residuals, after a factoring.
 fn task(
@@ -33,7 +33,7 @@ fn task(
     step: &mut [f64],
 ) -> Answer
     requires { ⌜ n + lasts call ≤ length (now rest) ⌝ }
-    ensures { λ r. ⌜ told (answerOf r) (now (step .exit)) ≡ taskFrom (taskOf call n (now (rest .entry))) st (now (order .entry)) (now (store .entry)) (now (step .entry)) ⌝ }
+    ensures { λ r. ⌜ finished (fitOf r) (now (step .exit)) ≡ taskFrom (taskOf call n (now (rest .entry))) st (now (order .entry)) (now (store .entry)) (now (step .entry)) ⌝ }
 {
     if call == 1 {
         let radius = rest[n];
@@ -54,7 +54,7 @@ fn work_in(
 ) -> Answer
     requires { ⌜ length (now xs) ≡ countOf h ⌝ }
     requires { ⌜ outside (h .m) (h .n) ≡ false ⌝ }
-    ensures { λ r. ⌜ told (answerOf r) (now (step .exit)) ≡ workedIn (jobOf h (now (xs .entry))) (now (store .entry)) (now (order .entry)) (now (bench .entry)) (now (step .entry)) ⌝ }
+    ensures { λ r. ⌜ finished (fitOf r) (now (step .exit)) ≡ workedIn (jobOf h (now (xs .entry))) (now (store .entry)) (now (order .entry)) (now (bench .entry)) (now (step .entry)) ⌝ }
 {
     let m = h.m;
     let n = h.n;
@@ -72,7 +72,7 @@ fn work_in(
 fn work(h: Head, xs: &[f64], step: &mut [f64]) -> Answer
     requires { ⌜ length (now xs) ≡ countOf h ⌝ }
     requires { ⌜ outside (h .m) (h .n) ≡ false ⌝ }
-    ensures { λ r. ⌜ told (answerOf r) (now (step .exit)) ≡ worked (jobOf h (now (xs .entry))) (now (step .entry)) ⌝ }
+    ensures { λ r. ⌜ finished (fitOf r) (now (step .exit)) ≡ worked (jobOf h (now (xs .entry))) (now (step .entry)) ⌝ }
 {
     let mut store = room::store();
     let mut order = room::order();
@@ -85,7 +85,7 @@ fn work_numbers(h: Head, sheet: &[u8], xs: &mut [f64], step: &mut [f64]) -> Answ
     requires { ⌜ length (now xs) ≡ countOf h ⌝ }
     requires { ⌜ length (now sheet) ≡ lengthOf h ⌝ }
     requires { ⌜ outside (h .m) (h .n) ≡ false ⌝ }
-    ensures { λ r. ⌜ told (answerOf r) (now (step .exit)) ≡ numbersCall h (now (sheet .entry)) (now (step .entry)) ⌝ }
+    ensures { λ r. ⌜ finished (fitOf r) (now (step .exit)) ≡ numbersCall h (now (sheet .entry)) (now (step .entry)) ⌝ }
 {
     doubles_into(sheet, xs);
     let c = check_numbers(h, xs);
@@ -97,7 +97,7 @@ fn work_numbers(h: Head, sheet: &[u8], xs: &mut [f64], step: &mut [f64]) -> Answ
 
 fn work_fields(h: Head, sheet: &[u8], step: &mut [f64]) -> Answer
     requires { ⌜ firstOf (fieldTests h (length (now sheet)) (length (now step))) ≡ 0 ⌝ }
-    ensures { λ r. ⌜ told (answerOf r) (now (step .exit)) ≡ numbersCall h (now (sheet .entry)) (now (step .entry)) ⌝ }
+    ensures { λ r. ⌜ finished (fitOf r) (now (step .exit)) ≡ numbersCall h (now (sheet .entry)) (now (step .entry)) ⌝ }
 {
     let k = count_of(h);
     let mut xs = room::numbers();
@@ -111,7 +111,7 @@ fn work_fields(h: Head, sheet: &[u8], step: &mut [f64]) -> Answer
 // Refused 1, 2, 3, 6, 7 by the sheet's own tests, in this order, over all its fields (3 also where step has under n places), then 8 by the
 // working; step is then as it was.
 pub fn fit(sheet: &[u8], step: &mut [f64]) -> Answer
-    ensures { λ r. ⌜ told (answerOf r) (now (step .exit)) ≡ sheetCall (now (sheet .entry)) (now (step .entry)) ⌝ }
+    ensures { λ r. ⌜ finished (fitOf r) (now (step .exit)) ≡ sheetCall (now (sheet .entry)) (now (step .entry)) ⌝ }
 {
     if sheet.len() < 3 {
         return Answer::Refused(1);

@@ -14,9 +14,9 @@ ghost use Prim.Native.Nat.{_+_, _≤_};
 ghost use lib.ListN.{length};
 ghost use Rattle.leaves.specs.Reply.{placeOf};
 ghost use Rattle.leaves.specs.Tests.{firstOf};
-ghost use Rattle.sheet.specs.Fit.{answerOf};
+ghost use Rattle.sheet.specs.Fit.{fitOf};
 ghost use Rattle.sheet.specs.Lines.{fittedLines, linesOf, columnTests, linesTests, printed, linesCall, textCall};
-ghost use Rattle.sheet.specs.Inner.{put};
+ghost use Rattle.sheet.specs.inner.Handed.{put};
 
 // Room for the longest text.
 fn text_room() -> [u8; 1024]
@@ -37,9 +37,9 @@ fn fitted_lines(f: Fitted, step: &[f64], out: &mut [u8], at: usize) -> usize
 }
 
 fn answer_lines(a: Answer, step: &[f64], out: &mut [u8]) -> usize
-    requires { ⌜ firstOf (linesTests (answerOf a) (length (now step))) ≡ 0 ⌝ }
+    requires { ⌜ firstOf (linesTests (fitOf a) (length (now step))) ≡ 0 ⌝ }
     requires { ⌜ 1024 ≤ length (now out) ⌝ }
-    ensures { λ r. ⌜ (r, now (out .exit)) ≡ put (linesOf (answerOf a) (now (step .entry))) 0 (now (out .entry)) ⌝ }
+    ensures { λ r. ⌜ (r, now (out .exit)) ≡ put (linesOf (fitOf a) (now (step .entry))) 0 (now (out .entry)) ⌝ }
     ensures { λ r. ⌜ r ≤ 1024 ⌝ }
 {
     match a {
@@ -69,7 +69,7 @@ fn check_columns(f: Fitted, step: usize) -> u8
 }
 
 fn check_lines(a: Answer, step: usize) -> u8
-    ensures { λ r. ⌜ r ≡ firstOf (linesTests (answerOf a) step) ⌝ }
+    ensures { λ r. ⌜ r ≡ firstOf (linesTests (fitOf a) step) ⌝ }
 {
     match a {
         Answer::Searched(f) => check_columns(f, step),
@@ -95,7 +95,7 @@ fn print(source: &[u8], text: &mut [u8]) -> Place
 // Answers how many bytes were written.
 // Refused 2 where the answer's columns are not 1 to 16, 3 where step or text is too short; text is then as it was.
 pub fn write_lines(a: Answer, step: &[f64], text: &mut [u8]) -> Place
-    ensures { λ r. ⌜ (placeOf r, now (text .exit)) ≡ linesCall (answerOf a) (now (step .entry)) (now (text .entry)) ⌝ }
+    ensures { λ r. ⌜ (placeOf r, now (text .exit)) ≡ linesCall (fitOf a) (now (step .entry)) (now (text .entry)) ⌝ }
 {
     let c = check_lines(a, step.len());
     if c != 0 {

@@ -10,7 +10,7 @@ ghost use Prim.Native.Nat.{_+_, _*_, _≤_};
 ghost use lib.ListN.{length};
 ghost use Rattle.text.specs.Put.{decimalOf};
 ghost use Rattle.sheet.specs.Lines.{line, double, stepWord, stepLines, countLines};
-ghost use Rattle.sheet.specs.Inner.{put};
+ghost use Rattle.sheet.specs.inner.Handed.{put};
 
 // A word and a space.
 fn put_name(name: &[u8], out: &mut [u8], at: usize) -> usize

@@ -13,7 +13,8 @@ use search::trust_region::Found;
 use search::trust_region::determine_lambda_and_parameter_update;
 ghost use mathlib.Core.Path.{_≡_};
 ghost use Rattle.search.specs.Search.{searchCall};
-ghost use Rattle.sheet.specs.Fit.{searched, started, soughtOf, answerOf, told, mapped, bySearch, soughtFrom, startedFrom};
+ghost use Rattle.sheet.specs.Fit.{searched, started, fitOf, finished, mapped, bySearch, soughtFrom, startedFrom};
+ghost use Rattle.sheet.specs.inner.Handed.{soughtOf};
 
 enum Sought {
     Found(Fitted),
@@ -31,7 +32,7 @@ fn seek_from(
     determined: usize,
     step: &mut [f64],
 ) -> Sought
-    ensures { λ r. ⌜ told (soughtOf r) (now (step .exit)) ≡ bySearch (st .n) determined (searchCall st (now (order .entry)) (now (diag .entry)) radius lambda (now (store .entry)) (now (step .entry)) .reply) (searchCall st (now (order .entry)) (now (diag .entry)) radius lambda (now (store .entry)) (now (step .entry)) .out) ⌝ }
+    ensures { λ r. ⌜ finished (soughtOf r) (now (step .exit)) ≡ bySearch (st .n) determined (searchCall st (now (order .entry)) (now (diag .entry)) radius lambda (now (store .entry)) (now (step .entry)) .reply) (searchCall st (now (order .entry)) (now (diag .entry)) radius lambda (now (store .entry)) (now (step .entry)) .out) ⌝ }
 {
     let s = determine_lambda_and_parameter_update(st, store, order, diag, radius, lambda, step);
     let found = s.answer;
@@ -56,7 +57,7 @@ fn seek(
     lambda: f64,
     step: &mut [f64],
 ) -> Sought
-    ensures { λ r. ⌜ told (soughtOf r) (now (step .exit)) ≡ soughtFrom st (now (order .entry)) (now (diag .entry)) radius lambda (now (store .entry)) (now (step .entry)) ⌝ }
+    ensures { λ r. ⌜ finished (soughtOf r) (now (step .exit)) ≡ soughtFrom st (now (order .entry)) (now (diag .entry)) radius lambda (now (store .entry)) (now (step .entry)) ⌝ }
 {
     let d = determined(st, store);
     let place = d.answer;
@@ -67,7 +68,7 @@ fn seek(
 }
 
 fn as_searched(a: Sought) -> Answer
-    ensures { λ r. ⌜ answerOf r ≡ mapped searched (soughtOf a) ⌝ }
+    ensures { λ r. ⌜ fitOf r ≡ mapped searched (soughtOf a) ⌝ }
 {
     match a {
         Sought::Found(f) => Answer::Searched(f),
@@ -76,7 +77,7 @@ fn as_searched(a: Sought) -> Answer
 }
 
 fn as_started(radius: f64, a: Sought) -> Answer
-    ensures { λ r. ⌜ answerOf r ≡ mapped (started radius) (soughtOf a) ⌝ }
+    ensures { λ r. ⌜ fitOf r ≡ mapped (started radius) (soughtOf a) ⌝ }
 {
     match a {
         Sought::Found(f) => Answer::Started(Started {
@@ -97,7 +98,7 @@ pub(crate) fn search(
     lambda: f64,
     step: &mut [f64],
 ) -> Answer
-    ensures { λ r. ⌜ told (answerOf r) (now (step .exit)) ≡ told (mapped searched (soughtFrom st (now (order .entry)) (now (diag .entry)) radius lambda (now (store .entry)) (now (step .entry)) .reply)) (soughtFrom st (now (order .entry)) (now (diag .entry)) radius lambda (now (store .entry)) (now (step .entry)) .step) ⌝ }
+    ensures { λ r. ⌜ finished (fitOf r) (now (step .exit)) ≡ finished (mapped searched (soughtFrom st (now (order .entry)) (now (diag .entry)) radius lambda (now (store .entry)) (now (step .entry)) .reply)) (soughtFrom st (now (order .entry)) (now (diag .entry)) radius lambda (now (store .entry)) (now (step .entry)) .step) ⌝ }
 {
     let a = seek(st, store, order, diag, radius, lambda, step);
     as_searched(a)
@@ -112,7 +113,7 @@ pub(crate) fn start(
     bound: f64,
     step: &mut [f64],
 ) -> Answer
-    ensures { λ r. ⌜ told (answerOf r) (now (step .exit)) ≡ startedFrom st (now (order .entry)) (now (x .entry)) bound (now (store .entry)) (now (step .entry)) ⌝ }
+    ensures { λ r. ⌜ finished (fitOf r) (now (step .exit)) ≡ startedFrom st (now (order .entry)) (now (x .entry)) bound (now (store .entry)) (now (step .entry)) ⌝ }
 {
     let mut diag = columns();
     let s = update_diag(st, store, Mode::FirstScaled, &mut diag, x, bound);

@@ -10,7 +10,8 @@ use borrow.Author.Tests.{lt-ltb, le-ltb, le-leb, lt-leb}
 use lib.ListN.{length, set, getD, drop, length-append, drop-of-length-le}
 use lib.Seq.{sets, set-comm, drop-cons}
 use Rattle.text.specs.Digit.{glyph}
-use Rattle.text.specs.Put.{digits, placesFrom, placesOf, putFrom, placed}
+use Rattle.text.specs.Put.{digits, placesFrom, placesOf, stored}
+use Rattle.text.specs.inner.Spelling.{putFrom}
 
 -- ---- `places`
 pub places-stop : (b n k rest : ℕ) → k < 20 → rest < b → placesFrom (20 - k) b k rest ≡ placesOf b n → k ≡ placesOf b n
@@ -69,13 +70,13 @@ pub copy-end : (src l r : List ℕ) (at i : ℕ) → length src ≤ i → sets l
 copy-end src l r at i h e = rw (drop-of-length-le src {i = i} h) at e
 
 -- ---- what is answered
-pub fits : (bytes l : List ℕ) (at k : ℕ) → length bytes ≡ k → at + k ≤ length l → (at + k, sets l at bytes) ≡ placed bytes at l
-unfolding placed
+pub fits : (bytes l : List ℕ) (at k : ℕ) → length bytes ≡ k → at + k ≤ length l → (at + k, sets l at bytes) ≡ stored bytes at l
+unfolding stored
 fits bytes l at k e h = rw (e, le-leb _ _ h)
 
-pub full : (bytes l : List ℕ) (at k : ℕ) → length bytes ≡ k → length l < at + k → (at, l) ≡ placed bytes at l
-unfolding placed
+pub full : (bytes l : List ℕ) (at k : ℕ) → length bytes ≡ k → length l < at + k → (at, l) ≡ stored bytes at l
+unfolding stored
 full bytes l at k e h = rw (e, lt-leb _ _ h)
 
-pub fits-as : (bytes l m : List ℕ) (at k : ℕ) → length bytes ≡ k → at + k ≤ length l → m ≡ sets l at bytes → (at + k, m) ≡ placed bytes at l
+pub fits-as : (bytes l m : List ℕ) (at k : ℕ) → length bytes ≡ k → at + k ≤ length l → m ≡ sets l at bytes → (at + k, m) ≡ stored bytes at l
 fits-as bytes l m at k e h p = rw p (fits bytes l at k e h)

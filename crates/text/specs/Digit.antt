@@ -6,8 +6,8 @@ use Rattle.text.specs.declared.digit.Digit.{Digit}
 use Rattle.text.specs.declared.digit.Digit.the-variants.{Is, Not}
 
 -- `0` to `9`, `A` to `F`, `a` to `f`
-unfoldable pub valueOf : ℕ → Digit
-valueOf b =
+unfoldable pub digitOf : ℕ → Digit
+digitOf b =
     cond (ltb b 48) Not
     (cond (ltb b 58) (Is (b - 48))
     (cond (ltb b 65) Not

@@ -1,5 +1,6 @@
--- What the contracts of `text` cite. A text is a list of ASCII codes.
-pub mod Digit
-pub mod Read
+-- What the public contracts of `text` cite: digits, numbers read and written.
 pub mod Put
-pub mod Part
+pub mod Read
+pub mod Digit
+-- What only inner functions, laws and examples cite stands apart: nobody need believe it.
+pub mod inner

@@ -3,7 +3,7 @@ use Prim.Native.Nat.{ℕ, zero, suc, _+_, _/_, _%_}
 use mathlib.Core.Bool.{true, false, cond}
 use mathlib.Core.List.{List, [], _∷_, _++_}
 use lib.Dec.{leb, ltb}
-use lib.ListN.{length, set}
+use lib.ListN.{length}
 use lib.Seq.{sets}
 use Rattle.text.specs.Digit.{glyph}
 
@@ -28,10 +28,5 @@ unfoldable pub decimalOf : ℕ → List ℕ
 decimalOf n = digits 10 (placesOf 10 n) n
 
 -- the bytes stored from place `at` on and the place after them; where they do not fit, nothing and `at`
-unfoldable pub placed : List ℕ → ℕ → List ℕ → ℕ × List ℕ
-placed bytes at l = cond (leb (at + length bytes) (length l)) (at + length bytes, sets l at bytes) (at, l)
-
--- the digits stored from the last to the first
-unfoldable pub putFrom : ℕ → ℕ → ℕ → ℕ → List ℕ → List ℕ
-putFrom b zero n at l = l
-putFrom b (suc k) n at l = putFrom b k (n / b) at (set l (at + k) (glyph (n % b)))
+unfoldable pub stored : List ℕ → ℕ → List ℕ → ℕ × List ℕ
+stored bytes at l = cond (leb (at + length bytes) (length l)) (at + length bytes, sets l at bytes) (at, l)

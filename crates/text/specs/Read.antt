@@ -7,39 +7,39 @@ use Rattle.text.specs.declared.digit.Digit.{Digit}
 use Rattle.text.specs.declared.digit.Digit.the-variants.{Is, Not}
 use Rattle.text.specs.declared.read.Read.{Read}
 use Rattle.text.specs.declared.read.Read.the-variants as read
-use Rattle.text.specs.Digit.{valueOf}
+use Rattle.text.specs.Digit.{digitOf}
 
 -- of a number that began at place `at` and ends at place i; with no digit it is refused
-unfoldable pub ended : ℕ → ℕ → ℕ → Read
-ended at v i = cond (eqb i at) read.Refused (read.Is (record { value = v; next = i }))
+unfoldable pub numberEnds : ℕ → ℕ → ℕ → Read
+numberEnds at v i = cond (eqb i at) read.Refused (read.Is (record { value = v; next = i }))
 
 -- at a byte that is no digit: a space and the end of a line end the number
 unfoldable pub stopped : ℕ → ℕ → ℕ → ℕ → Read
-unfolding ended
-stopped at v i b = cond (eqb b 32) (ended at v i) (cond (eqb b 10) (ended at v i) read.Refused)
+unfolding numberEnds
+stopped at v i b = cond (eqb b 32) (numberEnds at v i) (cond (eqb b 10) (numberEnds at v i) read.Refused)
 
-pub data Turn : Type 0 where
-  stop : Read → Turn
-  go : ℕ → Turn
+pub data DigitTurn : Type 0 where
+  stop : Read → DigitTurn
+  go : ℕ → DigitTurn
 
 -- one more digit, unless the number would not fit 64 bits
-abbrev pub more : ℕ → ℕ → Turn
+abbrev pub more : ℕ → ℕ → DigitTurn
 more v k = cond (leb (2 ^ 60) v) (stop read.Refused) (go (v * 16 + k))
 
-abbrev pub byDigit : ℕ → ℕ → ℕ → ℕ → Digit → Turn
+abbrev pub byDigit : ℕ → ℕ → ℕ → ℕ → Digit → DigitTurn
 byDigit at v i b (Is k) = more v k
 byDigit at v i b Not = stop (stopped at v i b)
 
-unfoldable pub turn : ℕ → ℕ → ℕ → ℕ → Turn
-unfolding stopped valueOf
-turn at v i b = byDigit at v i b (valueOf b)
+unfoldable pub turn : ℕ → ℕ → ℕ → ℕ → DigitTurn
+unfolding stopped digitOf
+turn at v i b = byDigit at v i b (digitOf b)
 
-abbrev pub go-on : (ℕ → Read) → Turn → Read
+abbrev pub go-on : (ℕ → Read) → DigitTurn → Read
 go-on f (stop r) = r
 go-on f (go v) = f v
 
 -- of what stands from place i on, with the number v so far
 unfoldable pub readFrom : ℕ → ℕ → ℕ → List ℕ → Read
-unfolding ended turn
-readFrom at v i [] = ended at v i
+unfolding numberEnds turn
+readFrom at v i [] = numberEnds at v i
 readFrom at v i (b ∷ bs) = go-on (λ w. readFrom at w (suc i) bs) (turn at v i b)

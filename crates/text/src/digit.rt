@@ -1,7 +1,7 @@
 // One hex digit.
 ghost use mathlib.Core.Path.{_≡_};
 ghost use Prim.Native.Nat.{_%_, _<_};
-ghost use Rattle.text.specs.Digit.{valueOf, glyph};
+ghost use Rattle.text.specs.Digit.{digitOf, glyph};
 
 pub enum Digit {
     Is(u64),
@@ -19,7 +19,7 @@ fn wide(b: u8) -> u64
 // b: any byte.
 // Refused where it is no digit.
 pub fn value(b: u8) -> Digit
-    ensures { λ r. ⌜ r ≡ valueOf b ⌝ }
+    ensures { λ r. ⌜ r ≡ digitOf b ⌝ }
 {
     let w = wide(b);
     if w < 48 {

@@ -5,7 +5,8 @@ ghost use mathlib.Core.Path.{_≡_};
 ghost use Prim.Native.Nat.{_+_, _<_, _≤_};
 ghost use lib.ListN.{length};
 ghost use lib.Seq.{sets};
-ghost use Rattle.text.specs.Put.{digits, placesOf, hexOf, decimalOf, placed, putFrom};
+ghost use Rattle.text.specs.Put.{digits, placesOf, hexOf, decimalOf, stored};
+ghost use Rattle.text.specs.inner.Spelling.{putFrom};
 
 // How many digits n has in base.
 fn places(n: u64, base: u64) -> usize
@@ -42,7 +43,7 @@ fn spell(n: u64, base: u64, k: usize, out: &mut [u8], at: usize)
 fn put_digits(n: u64, base: u64, k: usize, out: &mut [u8], at: usize) -> usize
     requires { ⌜ (0 < base) × (base ≤ 16) ⌝ }
     requires { ⌜ k ≤ 20 ⌝ }
-    ensures { λ r. ⌜ (r, now (out .exit)) ≡ placed (digits base k n) at (now (out .entry)) ⌝ }
+    ensures { λ r. ⌜ (r, now (out .exit)) ≡ stored (digits base k n) at (now (out .entry)) ⌝ }
 {
     if out.len() < k {
         return at;
@@ -56,14 +57,14 @@ fn put_digits(n: u64, base: u64, k: usize, out: &mut [u8], at: usize) -> usize
 
 // n as 16 capital hex digits, into out from `at` on; nothing where they do not fit. Answers the place after them, else `at`.
 pub fn word(n: u64, out: &mut [u8], at: usize) -> usize
-    ensures { λ r. ⌜ (r, now (out .exit)) ≡ placed (digits 16 16 n) at (now (out .entry)) ⌝ }
+    ensures { λ r. ⌜ (r, now (out .exit)) ≡ stored (digits 16 16 n) at (now (out .entry)) ⌝ }
 {
     put_digits(n, 16, 16, out, at)
 }
 
 // n as capital hex digits with no leading zeros, into out from `at` on; nothing where they do not fit. Answers the place after them, else `at`.
 pub fn hex(n: u64, out: &mut [u8], at: usize) -> usize
-    ensures { λ r. ⌜ (r, now (out .exit)) ≡ placed (hexOf n) at (now (out .entry)) ⌝ }
+    ensures { λ r. ⌜ (r, now (out .exit)) ≡ stored (hexOf n) at (now (out .entry)) ⌝ }
 {
     let k = places(n, 16);
     put_digits(n, 16, k, out, at)
@@ -71,7 +72,7 @@ pub fn hex(n: u64, out: &mut [u8], at: usize) -> usize
 
 // n as decimal digits with no leading zeros, into out from `at` on; nothing where they do not fit. Answers the place after them, else `at`.
 pub fn decimal(n: u64, out: &mut [u8], at: usize) -> usize
-    ensures { λ r. ⌜ (r, now (out .exit)) ≡ placed (decimalOf n) at (now (out .entry)) ⌝ }
+    ensures { λ r. ⌜ (r, now (out .exit)) ≡ stored (decimalOf n) at (now (out .entry)) ⌝ }
 {
     let k = places(n, 10);
     put_digits(n, 10, k, out, at)
@@ -90,7 +91,7 @@ fn copy(src: &[u8], out: &mut [u8], at: usize)
 
 // src into out from `at` on; nothing where it does not fit. Answers the place after it, else `at`.
 pub fn bytes(src: &[u8], out: &mut [u8], at: usize) -> usize
-    ensures { λ r. ⌜ (r, now (out .exit)) ≡ placed (now (src .entry)) at (now (out .entry)) ⌝ }
+    ensures { λ r. ⌜ (r, now (out .exit)) ≡ stored (now (src .entry)) at (now (out .entry)) ⌝ }
 {
     if out.len() < src.len() {
         return at;

@@ -4,7 +4,7 @@ use crate::digit::value;
 ghost use mathlib.Core.Path.{_≡_};
 ghost use Prim.Native.Nat.{_*_, _<_};
 ghost use lib.ListN.{drop};
-ghost use Rattle.text.specs.Read.{ended, stopped, readFrom};
+ghost use Rattle.text.specs.Read.{numberEnds, stopped, readFrom};
 
 // A number, and the place of what stands after its last digit.
 pub struct Found {
@@ -19,7 +19,7 @@ pub enum Read {
 
 // What a number that began at `at` is when it ends at i: refused without a digit.
 fn end(at: usize, v: u64, i: usize) -> Read
-    ensures { λ r. ⌜ r ≡ ended at v i ⌝ }
+    ensures { λ r. ⌜ r ≡ numberEnds at v i ⌝ }
 {
     if i == at {
         return Read::Refused;

@@ -9,11 +9,12 @@ use lib.ListN.{length, getD, take, drop, set, length-drop, length-set, length-ma
 use lib.Seq.{getD-drop, getD-set-same, getD-set-other, set-getD, set-set, set-at, take-suc, drop-cons, append-snoc, length-take-le, take-all}
 use lib.Ieee.{Float, nan}
 use Rattle.leaves.proofs.Folds.{front, front-step, front-end}
-use Rattle.leaves.specs.Square.{Square, uppersOf}
+use Rattle.leaves.specs.Square.{uppersOf}
 use Rattle.eliminate.specs.Eliminate.{heads, rowsFrom}
-use Rattle.eliminate.specs.Edges.{edgesOf, Mirrors, MirrorsColumn}
+use Rattle.eliminate.specs.inner.Edges.{edgesOf, Mirrors, MirrorsColumn}
 use Rattle.leaves.proofs.Squares.{uppersOf-length, upper-cell}
 use Rattle.eliminate.proofs.Triangular.{edgesOf-length, edge-long, edge-cell, cell-rows, cell-above, heads-same, uppers-by}
+use Rattle.leaves.specs.inner.Squares.{Square}
 
 rows-length : (j : ℕ) (cs : List (List Float)) → length (rowsFrom j cs) ≡ length cs
 unfolding rowsFrom

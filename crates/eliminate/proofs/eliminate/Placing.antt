@@ -9,14 +9,14 @@ use lib.ListN.{length, getD, take, drop, set, length-drop, drop-of-length-le}
 use lib.Seq.{getD-drop, take-all}
 use lib.Ieee.{Float, nan, eq}
 use Rattle.leaves.specs.Number.{plusZero}
-use Rattle.leaves.specs.Square.{Square}
 use Rattle.eliminate.specs.Eliminate.{givens, turned, left, turnedAll, leftAll}
-use Rattle.eliminate.specs.Edges.{edgesOf, ahead, TurnsPlace, Ahead, Turns}
+use Rattle.eliminate.specs.inner.Edges.{edgesOf, ahead, TurnsPlace, Ahead, Turns}
 use Rattle.eliminate.specs.declared.eliminate.Pair.{Pair}
 use Rattle.eliminate.specs.declared.eliminate.Rotation.{Rotation}
-use Rattle.leaves.specs.Patch.{patch}
+use Rattle.leaves.specs.inner.Patch.{patch}
 use Rattle.eliminate.proofs.Triangular.{edgesOf-length, edge-at, edge-long, lent-rows, lent-above}
 use Rattle.eliminate.proofs.Rotations.{turned-length, ahead-skipped, ahead-turned, ahead-none}
+use Rattle.leaves.specs.inner.Squares.{Square}
 
 -- LAW: one rotation by its own numbers
 pub turns-place : (col col′ l l′ : List Float) (b q : Float) (g : Rotation) → g ≡ givens (getD col 0 nan) (getD l 0 nan)

@@ -9,11 +9,12 @@ use lib.ListN.{length, getD, take, drop, set, length-set, length-drop, length-ap
 use lib.Seq.{drop-cons, take-all, take-take, take-at, drop-at, take-suc-set, drop-set-lt, append-snoc, length-take-le}
 use lib.Ieee.{Float, nan, binary64, add, sub, mul, div, neg}
 use Rattle.leaves.specs.Vector.{dotOf, axpyAll}
-use Rattle.leaves.specs.Square.{Square, uppersOf, belowsOf}
+use Rattle.leaves.specs.Square.{uppersOf, belowsOf}
 use Rattle.factor.specs.Held.{forwardUpper, forwardLower, mulUpper, mulLower}
 use Rattle.leaves.proofs.Squares.{upper-at, upper-long, upper-cell, uppersOf-length}
 use Rattle.leaves.proofs.Fronts.{map-at}
 use Rattle.factor.proofs.Backs.{below-is}
+use Rattle.leaves.specs.inner.Squares.{Square}
 
 -- ---- forward with R
 forward-cons : (xs c : List Float) (cs : List (List Float)) (b : Float) (bs : List Float) (k : ℕ) → length xs ≡ k

@@ -8,13 +8,13 @@ use lib.Ieee.{Float}
 use borrow.Author.Tests.{ne-eqb}
 use Rattle.leaves.specs.Reply.{Reply, answered, refused}
 use Rattle.factor.specs.State.{withHeld}
-use Rattle.factor.specs.Room.{Room, Sized, load, lay, emptied}
+use Rattle.factor.specs.Room.{Room, load, lay, emptied}
 use Rattle.leaves.specs.Tests.{Test, firstOf, allFinite}
 use Rattle.factor.specs.Tests.{finiteTest, solveTests}
 use Rattle.factor.specs.Solve.{zeroSolved, scatter, gather}
 use Rattle.eliminate.specs.Eliminate.{Rows}
 use Rattle.factor.specs.Outcome.{ended}
-use Rattle.factor.specs.Solves.{solvedAs, solvedIf, dampedRoom, dampedStep, zeroCall, dampedCall}
+use Rattle.factor.specs.Solves.{solvedAs, solvedIf, dampedRoom, dampedNumbers, zeroCall, dampedCall}
 use Rattle.factor.specs.declared.state.Held.{Held}
 use Rattle.factor.specs.declared.state.Held.the-variants as held
 use Rattle.factor.specs.declared.state.State.{State}
@@ -22,6 +22,7 @@ use Rattle.leaves.proofs.Refusals.{call-refused, call-worked, stopped, went-on,
 use Rattle.factor.proofs.Passed.{solve-passed, passed-sized}
 use Rattle.factor.proofs.Orders.{permutation-below}
 use Rattle.factor.proofs.Damped.{dampingOf}
+use Rattle.factor.specs.inner.Rooms.{Sized}
 
 -- ---- what the tests tell the workings
 pub tests-at : (st : State) (s : ℕ) (order : List ℕ) {c j k : ℕ} → c ≡ firstOf (solveTests st s order j) → j ≡ k → c ≡ firstOf (solveTests st s order k)
@@ -118,21 +119,21 @@ module _ (st : State) (diag : List Float) (order : List ℕ) (store out : List F
   unfolding dampedCall
   damped-call-refused h = call-refused _ (λ k. ended (refused k) st store out) _ c (sym e) (ne-eqb c 0 h)
 
-  module _ {b : Bool} {t : State} {s o : List Float} (z : c ≡ 0) (a : b ≡ allFinite (dampedStep reduced)) where
+  module _ {b : Bool} {t : State} {s o : List Float} (z : c ≡ 0) (a : b ≡ allFinite (dampedNumbers reduced)) where
     pub damped-call-answered : b ≡ true → t ≡ withHeld st held.Damped → s ≡ lay (cond b (dampedRoom reduced (load (st .n) store)) (emptied (load (st .n) store)))
-        → o ≡ cond b (scatter (take (st .n) order) (dampedStep reduced) out) out → ended (answered tt) t s o ≡ dampedCall st diag order store out
+        → o ≡ cond b (scatter (take (st .n) order) (dampedNumbers reduced) out) out → ended (answered tt) t s o ≡ dampedCall st diag order store out
     unfolding dampedCall
     damped-call-answered y h f g =
         same-ended (answered tt) h (f ∙ ap (λ (x : Bool). lay (cond x (dampedRoom reduced (load (st .n) store)) (emptied (load (st .n) store)))) y)
-        (g ∙ ap (λ (x : Bool). cond x (scatter (take (st .n) order) (dampedStep reduced) out) out) y)
-        ∙ finite-solved st order held.Damped (dampedRoom reduced (load (st .n) store)) (load (st .n) store) (dampedStep reduced) out (sym a ∙ y)
+        (g ∙ ap (λ (x : Bool). cond x (scatter (take (st .n) order) (dampedNumbers reduced) out) out) y)
+        ∙ finite-solved st order held.Damped (dampedRoom reduced (load (st .n) store)) (load (st .n) store) (dampedNumbers reduced) out (sym a ∙ y)
         ∙ call-worked _ (λ k. ended (refused k) st store out) _ (sym e ∙ z)
 
     pub damped-call-broken : b ≡ false → t ≡ withHeld st held.Nothing → s ≡ lay (cond b (dampedRoom reduced (load (st .n) store)) (emptied (load (st .n) store)))
-        → o ≡ cond b (scatter (take (st .n) order) (dampedStep reduced) out) out → ended (refused 8) t s o ≡ dampedCall st diag order store out
+        → o ≡ cond b (scatter (take (st .n) order) (dampedNumbers reduced) out) out → ended (refused 8) t s o ≡ dampedCall st diag order store out
     unfolding dampedCall
     damped-call-broken y h f g =
         same-ended (refused 8) h (f ∙ ap (λ (x : Bool). lay (cond x (dampedRoom reduced (load (st .n) store)) (emptied (load (st .n) store)))) y)
-        (g ∙ ap (λ (x : Bool). cond x (scatter (take (st .n) order) (dampedStep reduced) out) out) y)
-        ∙ broken-solved st order held.Damped (dampedRoom reduced (load (st .n) store)) (load (st .n) store) (dampedStep reduced) out (sym a ∙ y)
+        (g ∙ ap (λ (x : Bool). cond x (scatter (take (st .n) order) (dampedNumbers reduced) out) out) y)
+        ∙ broken-solved st order held.Damped (dampedRoom reduced (load (st .n) store)) (load (st .n) store) (dampedNumbers reduced) out (sym a ∙ y)
         ∙ call-worked _ (λ k. ended (refused k) st store out) _ (sym e ∙ z)

@@ -9,7 +9,7 @@ use borrow.Author.Tests.{ne-eqb}
 use Rattle.leaves.specs.Reply.{refused}
 use Rattle.factor.specs.State.{empty}
 use Rattle.leaves.specs.Tests.{firstOf}
-use Rattle.factor.specs.Worked.{outcome}
+use Rattle.factor.specs.inner.Worked.{outcome}
 use Rattle.factor.specs.Factoring.{Factored, factored, factorTests, factorWorked, factorCall}
 use Rattle.leaves.proofs.Refusals.{call-refused, call-worked}
 

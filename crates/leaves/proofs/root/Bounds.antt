@@ -10,7 +10,7 @@ use lib.Pow.{pow-add, pow-pos}
 use lib.Ieee.{size}
 use lib.Ieee.Digits.{size-lt, size-le, size-reaches}
 use Rattle.leaves.specs.Root.{halfExp, scaled, nearRoot}
-use Rattle.leaves.specs.Parts.{magnitude, Normed}
+use Rattle.leaves.specs.inner.Parts.{magnitude, Normed}
 use Rattle.leaves.proofs.root.Scaled.{normed-low, normed-high, half-is, scaled-even, scaled-odd}
 use Rattle.leaves.proofs.root.Whole.{near-bounds}
 

@@ -15,36 +15,14 @@ use lib.Ieee.Fits.{and-l, and-r, up-pos, down-pos, odd-fits}
 use lib.Ieee.Exact.{HasValue, odd-sign}
 use Rattle.leaves.specs.Number.{plusZero}
 use Rattle.leaves.specs.Root.{rootS, nearRoot, scaled, halfExp, unitsOf}
-use Rattle.leaves.specs.Parts.{magnitude}
+use Rattle.leaves.specs.inner.Parts.{magnitude}
 use Rattle.leaves.proofs.root.Scaled.{scaled-whole}
 use Rattle.leaves.proofs.root.Bounds.{normed-of, digits-of, Room, room}
 use Rattle.leaves.proofs.root.Whole.{Closest, near-closest, closest-unique}
 use Rattle.leaves.proofs.root.Floats.{below-zero, negative-below}
 use Rattle.leaves.proofs.root.Patterns.{rootS-is, finite-reads, some-pattern, Read}
 use Rattle.leaves.proofs.root.Same.{raisedBy, loweredBy, across, as-fraction, same-value}
-
--- "Else write x = S·4^k, S whole, 2^104 ≤ S < 2^106; the answer is q·2^k, with 4S strictly between (2q−1)² and (2q+1)²."
--- k may be below zero: 2 ^ k is up k / down k. `HasValue x s a c` says that x is finite with the sign s, and a / c in size. The subtraction
--- stops at zero, which matters at q = 0 alone, and 4S < 1 shuts that out.
-pub record Rounded (x r : Float) : Type 0 where
-  pub S : ℕ
-  pub k : ℤ
-  pub q : ℕ
-  pub argument : HasValue x false (S * (up k * up k)) (down k * down k)
-  pub low : 2 ^ 104 ≤ S
-  pub high : S < 2 ^ 106
-  pub answer : HasValue r false (q * up k) (down k)
-  pub above : (2 * q - 1) * (2 * q - 1) < 4 * S
-  pub below : 4 * S < (2 * q + 1) * (2 * q + 1)
-  pub held : T (fits binary64 r)
-
--- The rule whole: "±0 gives itself, below zero or NaN gives NaN, +infinity itself", and else the above. −infinity is below zero.
-pub record IsRoot (x r : Float) : Type 0 where
-  pub of-zero : (s : Bool) (e : ℤ) → x ≡ fin s 0 e → r ≡ x
-  pub of-below : lt x plusZero ≡ true → r ≡ nan
-  pub of-nan : x ≡ nan → r ≡ nan
-  pub of-infinity : x ≡ inf false → r ≡ x
-  pub of-else : (m : ℕ) (e : ℤ) → x ≡ fin false (suc m) e → Rounded x r
+use Rattle.leaves.specs.IsRoot.{Rounded, IsRoot}
 
 -- a value that the format holds is a whole number of units
 exact-down : (m k : ℕ) → 2 ^ suc k ≤ 2 ^ 1074 → m * 1 * 2 ^ 1074 ≡ m * 1 * 2 ^ 1074 / 2 ^ suc k * 2 ^ suc k

@@ -13,7 +13,7 @@ use lib.Ieee.Fits.{down-pos, eq→eqb}
 use lib.Ieee.Exact.{HasValue, odd-sign}
 use lib.Ieee.Bits.{is-false, cond-no, ofBits-toBits, toBits-lt, nanBits-is}
 use Rattle.leaves.specs.Root.{rootS, nearRoot, scaled, halfExp, unitsOf}
-use Rattle.leaves.specs.Parts.{magnitude, packed}
+use Rattle.leaves.specs.inner.Parts.{magnitude, packed}
 use Rattle.leaves.proofs.root.Scaled.{magnitude-low, magnitude-high}
 use Rattle.leaves.proofs.root.Bounds.{Room, room}
 use Rattle.leaves.proofs.root.Floats.{Above}

@@ -7,7 +7,7 @@ use native.Mathlib.Omega.{arith}
 use lib.Dec.{T, ltb→lt}
 use lib.Ieee.{Float, nan, inf, fin, binary64, up, down, lt, ofBits}
 use Rattle.leaves.specs.Root.{nearRoot}
-use Rattle.leaves.specs.Parts.{magnitude, packed}
+use Rattle.leaves.specs.inner.Parts.{magnitude, packed}
 use Rattle.leaves.proofs.root.Floats.{Above}
 use Rattle.leaves.proofs.root.Scaled.{normed-high, scaled-even, packs}
 use Rattle.leaves.proofs.root.Whole.{near-bounds}

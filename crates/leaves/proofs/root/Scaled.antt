@@ -12,7 +12,7 @@ use lib.Ieee.{size}
 use lib.Ieee.Digits.{size-lt, size-le}
 use lib.Ieee.Bits.{is-true, is-false}
 use Rattle.leaves.specs.Root.{halfExp, scaled, nearRoot}
-use Rattle.leaves.specs.Parts.{magnitude, packed, Normed}
+use Rattle.leaves.specs.inner.Parts.{magnitude, packed, Normed}
 
 -- ---- the magnitude of a pattern
 

@@ -6,13 +6,14 @@ use contract.Lifetimes.{Lfts}
 use borrow.Fn.World.{ArgsD}
 use borrow.Fn.Kinds.{endedOf}
 use denote.Triple.Clauses.{AtExit}
-use Rattle.leaves.proofs.root.Meets.{IsRoot, sqrt-meets}
+use Rattle.leaves.proofs.root.Meets.{sqrt-meets}
 use Rattle.leaves.proofs.root.sqrt as sqrt-code
 use Rattle.leaves.proofs.root.sqrt.Reads as sqrt
 use Rattle.leaves.proofs.root.sqrt.Kinds as sqrt-kinds
 use Rattle.leaves.proofs.root.sqrt_quarter as quarter-code
 use Rattle.leaves.proofs.root.sqrt_quarter.Reads as quarter
 use Rattle.leaves.proofs.root.sqrt_quarter.Kinds as quarter-kinds
+use Rattle.leaves.specs.IsRoot.{IsRoot}
 
 pub sqrt-one-outcome : (κs : Lfts 0) (a : ArgsD sqrt-code.signature κs) (r₁ r₂ : Float) (s₁ s₂ : AtExit (endedOf 0 sqrt-kinds.ps sqrt-kinds.r) κs)
     → sqrt.Post κs a r₁ s₁ → sqrt.Post κs a r₂ s₂ → r₁ ≡ r₂

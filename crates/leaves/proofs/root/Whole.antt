@@ -8,22 +8,22 @@ use native.Mathlib.Nat.{pow-suc, le-antisymm, lt-of-not-le, le-of-suc-le-suc, mu
 use native.Mathlib.Omega.{arith}
 use lib.Dec.{T, leb, ltb, leb→le, nleb→lt, ltb→lt, nltb→le}
 use Rattle.leaves.specs.Root.{isqrt, nearRoot}
-use Rattle.leaves.specs.Parts.{Rooted}
+use Rattle.leaves.specs.inner.Parts.{Rooted}
 
 -- w is the whole part of √n
-abbrev pub IsRoot : ℕ → ℕ → Type 0
-IsRoot n w = (w * w ≤ n) × (n < (w + 1) * (w + 1))
+abbrev pub IsWholeRoot : ℕ → ℕ → Type 0
+IsWholeRoot n w = (w * w ≤ n) × (n < (w + 1) * (w + 1))
 
-pub isqrt-is : (d n : ℕ) → n < 4 ^ d → IsRoot n (isqrt d n)
+pub isqrt-is : (d n : ℕ) → n < 4 ^ d → IsWholeRoot n (isqrt d n)
 unfolding isqrt
 isqrt-is zero n h = omega arith
 isqrt-is (suc d) n h = go (isqrt d (n / 4)) (isqrt-is d (n / 4) (omega (arith, pow-suc 4 d)))
   where
-    pick : (w : ℕ) (b : Bool) → (T b → (2 * w + 1) * (2 * w + 1) ≤ n) → (T (not b) → n < (2 * w + 1) * (2 * w + 1)) → IsRoot (n / 4) w → IsRoot n (cond b (2 * w + 1) (2 * w))
+    pick : (w : ℕ) (b : Bool) → (T b → (2 * w + 1) * (2 * w + 1) ≤ n) → (T (not b) → n < (2 * w + 1) * (2 * w + 1)) → IsWholeRoot (n / 4) w → IsWholeRoot n (cond b (2 * w + 1) (2 * w))
     pick w true p q r = let a = p tt in omega (arith, a, r .0, r .1)
     pick w false p q r = let a = q tt in omega (arith, a, r .0, r .1)
 
-    go : (w : ℕ) → IsRoot (n / 4) w → IsRoot n (cond (leb ((2 * w + 1) * (2 * w + 1)) n) (2 * w + 1) (2 * w))
+    go : (w : ℕ) → IsWholeRoot (n / 4) w → IsWholeRoot n (cond (leb ((2 * w + 1) * (2 * w + 1)) n) (2 * w + 1) (2 * w))
     go w r = pick w (leb ((2 * w + 1) * (2 * w + 1)) n) (leb→le ((2 * w + 1) * (2 * w + 1)) n) (nleb→lt ((2 * w + 1) * (2 * w + 1)) n) r
 
 -- of a square at most n and the next square above n, the roots are in order
@@ -36,7 +36,7 @@ roots-le a b n p q = le-of-suc-le-suc (lt-of-not-le (λ (g : suc b ≤ a). no (m
     no : (b + 1) * (b + 1) ≤ a * a → ⊥
     no g = lt-irrefl n (lt-of-lt-of-le q (le-trans g p))
 
-rooted-is : (n w rem : ℕ) → Rooted n w rem → IsRoot n w
+rooted-is : (n w rem : ℕ) → Rooted n w rem → IsWholeRoot n w
 rooted-is n w rem r = omega (arith, r .square, r .left)
 
 -- ---- the nearest whole number
@@ -49,7 +49,7 @@ pub near-closest : (n : ℕ) → 0 < n → n < 4 ^ 53 → Closest n (nearRoot n)
 unfolding nearRoot
 near-closest n p h = go (isqrt 53 n) (isqrt-is 53 n h)
   where
-    pick : (w : ℕ) (b : Bool) → (T b → w * w + w < n) → (T (not b) → n ≤ w * w + w) → IsRoot n w → Closest n (cond b (w + 1) w)
+    pick : (w : ℕ) (b : Bool) → (T b → w * w + w < n) → (T (not b) → n ≤ w * w + w) → IsWholeRoot n w → Closest n (cond b (w + 1) w)
     pick w true u d i =
         let a = u tt in
         let e : 2 * (w + 1) - 1 ≡ 2 * w + 1 = omega arith in
@@ -63,7 +63,7 @@ near-closest n p h = go (isqrt 53 n) (isqrt-is 53 n h)
         let e : 2 * suc w - 1 ≡ 2 * w + 1 = omega arith in
         rw e (omega (arith, a, i .0, i .1))
 
-    go : (w : ℕ) → IsRoot n w → Closest n (cond (ltb (w * w + w) n) (w + 1) w)
+    go : (w : ℕ) → IsWholeRoot n w → Closest n (cond (ltb (w * w + w) n) (w + 1) w)
     go w i = pick w (ltb (w * w + w) n) (ltb→lt (w * w + w) n) (nltb→le (w * w + w) n) i
 
 odd-lt : (a b n : ℕ) → (2 * a - 1) * (2 * a - 1) < 4 * n → 4 * n < (2 * b + 1) * (2 * b + 1) → a ≤ b
@@ -119,7 +119,7 @@ module _ (v w rem : ℕ) (r : Rooted (v * 2 ^ 52) w rem) (l : 2 ^ 52 ≤ v) (h :
 rooted-of : (v : ℕ) → v + 1 < 2 ^ 54 → Rooted (v * 2 ^ 52) (isqrt 53 (v * 2 ^ 52)) (v * 2 ^ 52 - isqrt 53 (v * 2 ^ 52) * isqrt 53 (v * 2 ^ 52))
 rooted-of v h = go (isqrt 53 (v * 2 ^ 52)) (isqrt-is 53 (v * 2 ^ 52) (omega arith))
   where
-    go : (w : ℕ) → IsRoot (v * 2 ^ 52) w → Rooted (v * 2 ^ 52) w (v * 2 ^ 52 - w * w)
+    go : (w : ℕ) → IsWholeRoot (v * 2 ^ 52) w → Rooted (v * 2 ^ 52) w (v * 2 ^ 52 - w * w)
     go w i = record {
       square = omega (arith, i .0);
       left = omega (arith, i .1);

@@ -6,10 +6,10 @@ use native.Mathlib.Numerals.{add-one}
 use lib.ListN.{length, getD, drop, drop-of-length-le}
 use lib.Seq.{drop-cons}
 use lib.Ieee.{Float, nan}
-use Rattle.text.specs.Put.{placed}
+use Rattle.text.specs.Put.{stored}
 use Rattle.lines.specs.Put.{joined, doubleAt, rowFrom}
 
-pub two-puts : (a b : List ℕ) (at n m : ℕ) (l l₁ l₂ : List ℕ) → (n, l₁) ≡ placed a at l → (m, l₂) ≡ placed b n l₁ → (m, l₂) ≡ joined a b at l
+pub two-puts : (a b : List ℕ) (at n m : ℕ) (l l₁ l₂ : List ℕ) → (n, l₁) ≡ stored a at l → (m, l₂) ≡ stored b n l₁ → (m, l₂) ≡ joined a b at l
 unfolding joined
 two-puts a b at n m l l₁ l₂ p q = rw (← p) q
 

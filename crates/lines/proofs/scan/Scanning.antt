@@ -8,7 +8,7 @@ use native.Mathlib.Numerals.{add-one}
 use borrow.Author.Tests.{lt-ltb, le-ltb}
 use lib.ListN.{length, set, drop}
 use lib.Ieee.{Float, binary64, ofBits}
-use Rattle.text.specs.Part.{Part}
+use Rattle.text.specs.inner.Part.{Part}
 use Rattle.text.specs.Read.{readFrom}
 use Rattle.text.specs.declared.read.Read.{Read}
 use Rattle.text.specs.declared.read.Read.the-variants as read

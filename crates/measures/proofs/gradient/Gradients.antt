@@ -17,12 +17,13 @@ use Rattle.leaves.proofs.Folds.{front}
 use Rattle.leaves.proofs.Signs.{is-nan}
 use Rattle.leaves.proofs.Fronts.{front-old, map-at}
 use Rattle.leaves.proofs.Products.{divided-length}
-use Rattle.leaves.specs.Square.{Square, uppersOf}
+use Rattle.leaves.specs.Square.{uppersOf}
 use Rattle.leaves.specs.Product.{dividedBy}
 use Rattle.factor.specs.Solve.{gather}
 use Rattle.factor.proofs.Solves.{gather-at, gather-length}
 use Rattle.measures.specs.Gradient.{measures, largest, combined, jxNorm}
 use Rattle.leaves.proofs.Squares.{upper-at, upper-long, uppersOf-length}
+use Rattle.leaves.specs.inner.Squares.{Square}
 
 -- what a test by `!=` says
 pub ne-true : (x y : Float) → ne x y ≡ true → eq x y ≡ false

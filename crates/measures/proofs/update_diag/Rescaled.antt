@@ -10,13 +10,14 @@ use Rattle.leaves.specs.Reply.{Reply, refused}
 use Rattle.factor.specs.Room.{load, lay, rested}
 use Rattle.leaves.specs.Tests.{firstOf}
 use Rattle.factor.specs.Tests.{roomTests, finiteTest, finiteNumber, notAbove}
-use Rattle.measures.specs.Rescale.{Scaled, firstTests, scalingTests, parametersRead, rescaled, scalingCall}
+use Rattle.measures.specs.Rescale.{Scaled, firstTests, scalingTests, rescaled, scalingCall}
 use Rattle.factor.specs.Outcome.{ended}
 use Rattle.factor.specs.declared.state.State.{State}
 use Rattle.measures.specs.declared.scaling.Mode.{Mode}
 use Rattle.measures.specs.declared.scaling.Mode.the-variants as mode
 use Rattle.factor.proofs.Passed.{Passed, room-passed}
 use Rattle.leaves.proofs.Refusals.{call-refused, call-worked, earlier-passed}
+use Rattle.measures.specs.inner.Reads.{parametersRead}
 
 -- ---- each mode's tests
 module _ (st : State) (store : ℕ) (diag x : List Float) (bound : Float) {k : ℕ} {md : Mode} where

@@ -11,7 +11,7 @@ use lib.Ieee.{Float, nan, binary64, div, neg, eq}
 use Rattle.leaves.specs.Number.{isNegative, plusZero}
 use Rattle.leaves.specs.Norm.{norm}
 use Rattle.reduce.specs.Reduction.{reduction, reflectFrom, shrunk, renewed, later, signed}
-use Rattle.reduce.specs.Bench.{divided, renewedAt, stale}
+use Rattle.reduce.specs.inner.Bench.{divided, renewedAt, stale}
 
 pub divided-length : (t : Float) (c : List Float) → length (divided t c) ≡ length c
 divided-length t [] = refl

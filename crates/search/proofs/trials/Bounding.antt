@@ -21,7 +21,7 @@ use Rattle.search.specs.Bounds.{lowerBound, gnorm, upperBound, firstLamb
 use Rattle.search.specs.Run as run
 use Rattle.search.specs.Run.{Run, Next, lower-bound, gradient-norm, trialsFrom}
 use Rattle.search.specs.Search.{problemOf, Answer, concluded}
-use Rattle.search.specs.Read.{Ready, turnedBy, damped}
+use Rattle.search.specs.inner.Read.{Ready, turnedBy, damped}
 use Rattle.search.proofs.Workings.{shaped}
 
 -- ---- the bounds

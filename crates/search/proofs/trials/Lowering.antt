@@ -7,7 +7,7 @@ use lib.ListN.{length, take, length-map}
 use lib.Ieee.{Float}
 use Rattle.leaves.specs.Root.{rootS}
 use Rattle.leaves.specs.Vector.{scaleAll}
-use Rattle.factor.specs.Room.{Room, Shaped, load, lay, leaving, emptied}
+use Rattle.factor.specs.Room.{Room, load, lay, leaving, emptied}
 use Rattle.leaves.specs.Square.{cleared}
 use Rattle.eliminate.specs.Eliminate.{Rows, heads, tails}
 use Rattle.factor.specs.declared.state.State.{State}
@@ -17,9 +17,10 @@ use Rattle.eliminate.proofs.Triangular.{heads-length}
 use Rattle.factor.specs.PivotOrder.{lowered}
 use Rattle.search.specs.Problem.{dampedRows}
 use Rattle.search.specs.Search.{problemOf}
-use Rattle.search.specs.Read.{Ready}
+use Rattle.search.specs.inner.Read.{Ready}
 use Rattle.search.proofs.Shapes.{Even, tri-length, tails-tall, gathered-even}
 use Rattle.search.proofs.Workings.{shaped, order-long}
+use Rattle.factor.specs.inner.Rooms.{Shaped}
 
 module _ (n : ℕ) (l : Rows) (r : Room) (z : Shaped n r) (e : Even n l) where
   tails-wide : length (tails (l .0)) ≡ n

@@ -18,7 +18,7 @@ use Rattle.factor.specs.declared.state.Held.the-variants as held
 use Rattle.factor.specs.PivotOrder.{lowered}
 use Rattle.search.specs.Problem.{Problem, placed, dampedRows, dampedStep, scaledStep, direction, dampedSlope, newton}
 use Rattle.search.specs.Search.{problemOf}
-use Rattle.search.specs.Read.{Ready, turnedBy}
+use Rattle.search.specs.inner.Read.{Ready, turnedBy}
 use Rattle.search.proofs.Workings.{shaped}
 use Rattle.search.proofs.trials.Lowering.{lowered-emptied, lowered-loaded, rows-fit}
 

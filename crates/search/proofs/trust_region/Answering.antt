@@ -13,7 +13,7 @@ use Rattle.search.specs.Bounds.{lowerBound, gnorm, band}
 use Rattle.search.specs.Run as run
 use Rattle.search.specs.Run.{Run, lower-bound, gradient-norm, runOf}
 use Rattle.search.specs.Search.{problemOf, Answer, answer, concluded, answerOf}
-use Rattle.search.specs.Read.{unanswered, damped}
+use Rattle.search.specs.inner.Read.{unanswered, damped}
 use Rattle.search.proofs.Trying.{any-answer}
 
 -- ---- a run from the bounds on is not read before its first trial

@@ -17,25 +17,26 @@ use Rattle.leaves.specs.Tests.{outside, firstOf}
 use Rattle.leaves.specs.Square.{zeros}
 use Rattle.factor.specs.Factoring.{Factored, factored, factorCall}
 use Rattle.factor.specs.declared.state.State.{State}
-use Rattle.leaves.proofs.Refusals.{NoneHold, passed-iff, stopped, test-met, call-refused, call-worked, past, went-to}
+use Rattle.leaves.proofs.Refusals.{passed-iff, stopped, test-met, call-refused, call-worked, past, went-to}
 use Rattle.sheet.specs.Sheet.{Task, Job, headOf, doubles, countOf, lengthOf, taskOf, jobOf}
 use Rattle.sheet.specs.Tests.{fieldTests, numberTests, numbersOf, sheetTests}
-use Rattle.sheet.specs.Fit.{Fit, searched, Told, told, mapped, soughtFrom, startedFrom, taskFrom, byFactoring, workedIn, worked, sheetCall}
-use Rattle.sheet.specs.Inner.{numbersCall}
+use Rattle.sheet.specs.Fit.{Fit, searched, Finished, finished, mapped, soughtFrom, startedFrom, taskFrom, byFactoring, workedIn, worked, sheetCall}
+use Rattle.sheet.specs.inner.Handed.{numbersCall}
 use Rattle.sheet.specs.declared.head.Head.{Head}
 use Rattle.sheet.specs.declared.answer.Fitted.{Fitted}
 use Rattle.sheet.proofs.Testing.{search-task, start-task, task-is}
+use Rattle.leaves.specs.Refusing.{NoneHold}
 
 -- ---- call 1 or call 2
 module _ (call n : ℕ) (rest : List Float) (st : State) (order : List ℕ) (store step : List Float) where
-  abbrev sought : Told Fitted
+  abbrev sought : Finished Fitted
   sought = soughtFrom st order (take n rest) (getD rest n nan) (getD rest (n + 1) nan) store step
 
-  pub as-search : {t : Told Fit} → call ≡ 1 → t ≡ told (mapped searched (sought .reply)) (sought .step) → t ≡ taskFrom (taskOf call n rest) st order store step
+  pub as-search : {t : Finished Fit} → call ≡ 1 → t ≡ finished (mapped searched (sought .reply)) (sought .step) → t ≡ taskFrom (taskOf call n rest) st order store step
   unfolding taskFrom
   as-search e h = h ∙ ap (λ (u : Task). taskFrom u st order store step) (search-task call n rest e)
 
-  pub as-start : {t : Told Fit} → call ≢ 1 → t ≡ startedFrom st order (take n rest) (getD rest n nan) store step → t ≡ taskFrom (taskOf call n rest) st order store step
+  pub as-start : {t : Finished Fit} → call ≢ 1 → t ≡ startedFrom st order (take n rest) (getD rest n nan) store step → t ≡ taskFrom (taskOf call n rest) st order store step
   unfolding taskFrom
   as-start e h = h ∙ ap (λ (u : Task). taskFrom u st order store step) (start-task call n rest e)
 
@@ -53,7 +54,7 @@ module _ (h : Head) (xs store : List Float) (order : List ℕ) (bench step : Lis
         ∙ ap (λ (y : Factored). byFactoring (jobOf h xs .task) (y .reply) (y .state) (y .order) (y .store) step)
         (f ∙ ap (λ (k : ℕ). factorCall (h .m) (h .n) (take a xs) (take k (drop a xs)) store order bench) z)
 
-    pub work-on : d ≡ done.Written → {t : Told Fit} → t ≡ taskFrom (taskOf (h .call) (h .n) (take (length xs - (a + h .m)) (drop (a + h .m) xs))) q w s step
+    pub work-on : d ≡ done.Written → {t : Finished Fit} → t ≡ taskFrom (taskOf (h .call) (h .n) (take (length xs - (a + h .m)) (drop (a + h .m) xs))) q w s step
         → t ≡ workedIn (jobOf h xs) store order bench step
     work-on p g =
         g
@@ -61,7 +62,7 @@ module _ (h : Head) (xs store : List Float) (order : List ℕ) (bench step : Lis
         ∙ ap (λ (u : Task). taskFrom u q w s step) (task-is h xs e o)
         ∙ by _ p
 
-    pub work-refused : {k : ℕ} → d ≡ done.Refused k → told (refused k) step ≡ workedIn (jobOf h xs) store order bench step
+    pub work-refused : {k : ℕ} → d ≡ done.Refused k → finished (refused k) step ≡ workedIn (jobOf h xs) store order bench step
     work-refused p = by _ p
 
 pub in-rooms : (j : Job) (step : List Float) {s b : List Float} {w : List ℕ} → s ≡ zeros 320 → w ≡ replicate 16 0 → b ≡ zeros 2176 → workedIn j s w b step ≡ worked j step
@@ -76,16 +77,16 @@ module _ (h : Head) (s : List ℕ) (step : List Float) {xs : List Float} {c : �
   e′ : firstOf (numberTests h (numbersOf h s)) ≡ c
   e′ = ap (λ (l : List Float). firstOf (numberTests h l)) (sym x) ∙ sym e
 
-  pub numbers-refused : c ≢ 0 → told (refused c) step ≡ numbersCall h s step
+  pub numbers-refused : c ≢ 0 → finished (refused c) step ≡ numbersCall h s step
   unfolding numbersCall
-  numbers-refused n = call-refused (worked (jobOf h (numbersOf h s)) step) (λ (k : ℕ). told (refused k) step) (numberTests h (numbersOf h s)) c e′ (ne-eqb _ _ n)
+  numbers-refused n = call-refused (worked (jobOf h (numbersOf h s)) step) (λ (k : ℕ). finished (refused k) step) (numberTests h (numbersOf h s)) c e′ (ne-eqb _ _ n)
 
-  pub numbers-worked : c ≡ 0 → {t : Told Fit} → t ≡ worked (jobOf h xs) step → t ≡ numbersCall h s step
+  pub numbers-worked : c ≡ 0 → {t : Finished Fit} → t ≡ worked (jobOf h xs) step → t ≡ numbersCall h s step
   unfolding numbersCall
   numbers-worked z g =
       g
       ∙ ap (λ (l : List Float). worked (jobOf h l) step) x
-      ∙ call-worked (worked (jobOf h (numbersOf h s)) step) (λ (k : ℕ). told (refused k) step) (numberTests h (numbersOf h s)) (e′ ∙ z)
+      ∙ call-worked (worked (jobOf h (numbersOf h s)) step) (λ (k : ℕ). finished (refused k) step) (numberTests h (numbersOf h s)) (e′ ∙ z)
 
 pub as-counted : (h : Head) (s : List ℕ) {k : ℕ} → k ≡ countOf h → {xs : List Float} → xs ≡ doubles k (drop 3 s) → xs ≡ numbersOf h s
 as-counted h s e x = x ∙ ap (λ (k : ℕ). doubles k (drop 3 s)) e
@@ -100,13 +101,13 @@ fields-passed h len room z =
     (p .1 .0, eqb-true len (lengthOf h) (either (eqb len (lengthOf h)) (ltb room (h .n)) (p .1 .1 .0)))
 
 module _ (s : List ℕ) (step : List Float) where
-  abbrev refusal : ℕ → Told Fit
-  refusal k = told (refused k) step
+  abbrev refusal : ℕ → Finished Fit
+  refusal k = finished (refused k) step
 
-  abbrev all : Told Fit
+  abbrev all : Finished Fit
   all = worked (jobOf (headOf s) (numbersOf (headOf s) s)) step
 
-  pub sheet-short : length s < 3 → told (refused 1) step ≡ sheetCall s step
+  pub sheet-short : length s < 3 → finished (refused 1) step ≡ sheetCall s step
   unfolding sheetCall sheetTests
   sheet-short t = call-refused all refusal (sheetTests s (length step)) 1 (test-met _ _ (lt-ltb _ _ t)) refl
 
@@ -114,7 +115,7 @@ module _ (s : List ℕ) (step : List Float) where
     f : c ≡ firstOf (fieldTests (headOf s) (length s) (length step))
     f = e ∙ ap (λ (x : Head). firstOf (fieldTests x (length s) (length step))) p
 
-    pub sheet-refused : c ≢ 0 → told (refused c) step ≡ sheetCall s step
+    pub sheet-refused : c ≢ 0 → finished (refused c) step ≡ sheetCall s step
     unfolding sheetCall sheetTests
     sheet-refused n =
         call-refused all refusal (sheetTests s (length step)) c

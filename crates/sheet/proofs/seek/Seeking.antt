@@ -19,12 +19,13 @@ use Rattle.measures.specs.declared.scaling.Scaling.{Scaling}
 use Rattle.measures.specs.declared.scaling.Scaling.the-variants as scaling
 use Rattle.measures.specs.declared.scaling.Mode.the-variants as mode
 use Rattle.search.specs.Search.{searchCall}
-use Rattle.search.specs.Read.{foundOf}
 use Rattle.search.specs.declared.LMParameter.{LMParameter}
 use Rattle.search.specs.declared.trust_region.Found.{Found}
-use Rattle.sheet.specs.Fit.{Fit, started, Told, told, soughtOf, mapped, bySearch, byDetermined, soughtFrom, byScaling, startedFrom}
+use Rattle.sheet.specs.Fit.{Fit, started, Finished, finished, mapped, bySearch, byDetermined, soughtFrom, byScaling, startedFrom}
 use Rattle.sheet.specs.declared.answer.Fitted.{Fitted}
 use Rattle.sheet.specs.declared.seek.Sought.{Sought}
+use Rattle.search.specs.Answers.{foundOf}
+use Rattle.sheet.specs.inner.Handed.{soughtOf}
 
 -- ---- a search
 pub search-told : (n d : ℕ) (a : Found) {f : Found} {q : State} {store step : List Float} (s : Ended LMParameter) → ended (foundOf f) q store step ≡ s → f ≡ a
@@ -44,15 +45,15 @@ module _ (st : State) (order : List ℕ) (diag : List Float) (radius lambda : Fl
         ap (λ (x : Place). byDetermined (st .n) (placeOf x) (after left) step) (sym p)
         ∙ ap (λ (x : calls.Told ℕ). byDetermined (st .n) (x .reply) (after (x .store)) step) e
 
-    pub sought-on : {k : ℕ} → a ≡ place.At k → {t : Told Fitted} → t ≡ bySearch (st .n) k (after left .reply) (after left .out) → t ≡ soughtFrom st order diag radius lambda store step
+    pub sought-on : {k : ℕ} → a ≡ place.At k → {t : Finished Fitted} → t ≡ bySearch (st .n) k (after left .reply) (after left .out) → t ≡ soughtFrom st order diag radius lambda store step
     sought-on p h = h ∙ by _ p
 
-    pub sought-refused : {k : ℕ} → a ≡ place.Refused k → told (refused k) step ≡ soughtFrom st order diag radius lambda store step
+    pub sought-refused : {k : ℕ} → a ≡ place.Refused k → finished (refused k) step ≡ soughtFrom st order diag radius lambda store step
     sought-refused p = by _ p
 
 -- ---- the answer as call 1 or call 2 tells it
-pub mapped-told : (f : Fitted → Fit) (b : Sought) {step : List Float} (a : Told Fitted) → told (soughtOf b) step ≡ a → {r : Reply Fit} → r ≡ mapped f (soughtOf b) → told r step ≡ told (mapped f (a .reply)) (a .step)
-mapped-told f b {step} a e h = ap (λ (x : Reply Fit). told x step) h ∙ ap (λ (x : Told Fitted). told (mapped f (x .reply)) (x .step)) e
+pub mapped-told : (f : Fitted → Fit) (b : Sought) {step : List Float} (a : Finished Fitted) → finished (soughtOf b) step ≡ a → {r : Reply Fit} → r ≡ mapped f (soughtOf b) → finished r step ≡ finished (mapped f (a .reply)) (a .step)
+mapped-told f b {step} a e h = ap (λ (x : Reply Fit). finished x step) h ∙ ap (λ (x : Finished Fitted). finished (mapped f (x .reply)) (x .step)) e
 
 -- ---- call 2: the first scaling, then a search from lambda 0
 module _ (st : State) (order : List ℕ) (x : List Float) (bound : Float) (store step : List Float) {old : List Float} (z : old ≡ zeros 16) where
@@ -63,12 +64,12 @@ module _ (st : State) (order : List ℕ) (x : List Float) (bound : Float) (store
         ap (λ (u : Scaling). byScaling st order (scalingOf u) diag left step) (sym p)
         ∙ ap (λ (u : Ended Scaled). byScaling st order (u .reply) (u .out) (u .store) step) (e ∙ ap (λ (o : List Float). scalingCall st mode.FirstScaled o x bound store) z)
 
-    pub started-on : {t : Start} → a ≡ scaling.First t → (b : Sought) {now : List Float} → told (soughtOf b) now ≡ soughtFrom st order diag (t .radius) plusZero left step
-        → {r : Reply Fit} → r ≡ mapped (started (t .radius)) (soughtOf b) → told r now ≡ startedFrom st order x bound store step
+    pub started-on : {t : Start} → a ≡ scaling.First t → (b : Sought) {now : List Float} → finished (soughtOf b) now ≡ soughtFrom st order diag (t .radius) plusZero left step
+        → {r : Reply Fit} → r ≡ mapped (started (t .radius)) (soughtOf b) → finished r now ≡ startedFrom st order x bound store step
     started-on {t = t} p b h k = mapped-told (started (t .radius)) b _ h k ∙ scaled _ p
 
-    pub started-later : a ≡ scaling.Later → told (refused 8) step ≡ startedFrom st order x bound store step
+    pub started-later : a ≡ scaling.Later → finished (refused 8) step ≡ startedFrom st order x bound store step
     started-later p = scaled _ p
 
-    pub started-refused : {k : ℕ} → a ≡ scaling.Refused k → told (refused k) step ≡ startedFrom st order x bound store step
+    pub started-refused : {k : ℕ} → a ≡ scaling.Refused k → finished (refused k) step ≡ startedFrom st order x bound store step
     started-refused p = scaled _ p

@@ -4,7 +4,7 @@ use mathlib.Core.Path.{_≡_, refl, sym, ap, _∙_}
 use borrow.Author.Needs.{needs}
 use lib.ListN.{length, length-set}
 use Rattle.eliminate.specs.Eliminate.{eliminated}
-use Rattle.eliminate.specs.Edges.{edgesOf}
+use Rattle.eliminate.specs.inner.Edges.{edgesOf}
 use Rattle.eliminate.proofs.Triangular.{heads-length, edgesOf-length}
 use Rattle.eliminate.proofs.Settling.{Settling, settle-none, settle-turn, settle-done}
 use Rattle.eliminate.proofs.eliminate.eliminate_rows.Statement.{statement}

@@ -5,7 +5,7 @@ use native.Mathlib.Omega.{arith}
 use borrow.Author.Needs.{needs}
 use lib.ListN.{getD}
 use mathlib.Core.List.{[]}
-use Rattle.eliminate.specs.Edges.{edgesOf}
+use Rattle.eliminate.specs.inner.Edges.{edgesOf}
 use Rattle.eliminate.proofs.Triangular.{edge-cell, edge-long, cell-rows, cell-above, set-first}
 use Rattle.eliminate.proofs.eliminate.end_row.Statement.{statement}
 use Rattle.eliminate.proofs.eliminate.end_row.Tie as tie

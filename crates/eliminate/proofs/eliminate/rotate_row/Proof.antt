@@ -5,7 +5,7 @@ use borrow.Author.Needs.{needs}
 use lib.ListN.{length}
 use lib.Ieee.{ofBits}
 use Rattle.leaves.specs.Number.{plusZero}
-use Rattle.eliminate.specs.Edges.{ahead, Ahead}
+use Rattle.eliminate.specs.inner.Edges.{ahead, Ahead}
 use Rattle.eliminate.proofs.eliminate.Placing.{places-done}
 use Rattle.eliminate.proofs.eliminate.rotate_row.Statement.{statement}
 use Rattle.eliminate.proofs.eliminate.rotate_row.Tie as tie

@@ -5,7 +5,7 @@ use native.Mathlib.Omega.{arith}
 use borrow.Author.Needs.{needs}
 use lib.ListN.{length, length-set}
 use Rattle.eliminate.specs.Eliminate.{heads}
-use Rattle.eliminate.specs.Edges.{edgesOf}
+use Rattle.eliminate.specs.inner.Edges.{edgesOf}
 use Rattle.leaves.proofs.Folds.{front, front-turn, front-end}
 use Rattle.eliminate.proofs.Triangular.{first-at, heads-length, edgesOf-length}
 use Rattle.eliminate.proofs.eliminate.save_diagonal.Statement.{statement}

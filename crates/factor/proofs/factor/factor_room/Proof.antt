@@ -4,7 +4,7 @@ use mathlib.Core.Path.{sym, ap, _∙_}
 use native.Mathlib.Omega.{arith}
 use borrow.Author.Needs.{needs}
 use Rattle.leaves.specs.Square.{zeros}
-use Rattle.leaves.specs.Patch.{patch}
+use Rattle.leaves.specs.inner.Patch.{patch}
 use Rattle.leaves.proofs.Overs.{lent-fits, lent-long}
 use Rattle.reduce.proofs.Begins.{kept-bench}
 use Rattle.reduce.proofs.Lent.{front-in, front-again, front-long}

@@ -5,7 +5,7 @@ use borrow.Author.Needs.{needs}
 use mathlib.Core.List.{[]}
 use lib.ListN.{getD, take, drop}
 use Rattle.leaves.proofs.Triangles.{column-fits}
-use Rattle.reduce.specs.Bench.{grid}
+use Rattle.reduce.specs.inner.Bench.{grid}
 use Rattle.leaves.proofs.Grids.{tail-part, column-long}
 use Rattle.factor.proofs.Lays.{column-laid}
 use Rattle.factor.proofs.laying.lay_column.Statement.{statement}

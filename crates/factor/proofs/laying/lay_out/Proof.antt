@@ -9,7 +9,7 @@ use lib.ListN.{length, getD, take}
 use lib.Seq.{getD-take}
 use Rattle.leaves.specs.Square.{joined}
 use Rattle.factor.specs.Factoring.{uppers, noLower}
-use Rattle.reduce.specs.Bench.{grid}
+use Rattle.reduce.specs.inner.Bench.{grid}
 use Rattle.leaves.proofs.Overs.{over, over-end}
 use Rattle.factor.proofs.Lays.{whole-long, lay-turn}
 use Rattle.reduce.proofs.Begins.{bench-wide, bench-long}

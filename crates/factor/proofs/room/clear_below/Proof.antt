@@ -3,11 +3,12 @@ use Prim.Native.Nat.{_-_, _≤_}
 use mathlib.Core.Path.{_≡_, refl, sym, _∙_}
 use native.Mathlib.Omega.{arith}
 use borrow.Author.Needs.{needs}
-use Rattle.leaves.specs.Square.{Square, uppersOf, belowsOf}
+use Rattle.leaves.specs.Square.{uppersOf, belowsOf}
 use Rattle.leaves.proofs.Squares.{belowsOf-length, below-long}
 use Rattle.factor.proofs.Lent.{clearedTo, cleared-none, cleared-turn, cleared-end}
 use Rattle.factor.proofs.room.clear_below.Statement.{statement}
 use Rattle.factor.proofs.room.clear_below.Tie as tie
+use Rattle.leaves.specs.inner.Squares.{Square}
 
 abbrev Inv-loop : tie.InvT-loop
 Inv-loop square₀ n k₀ square k = (k ≤ n) × (Square n square) × (uppersOf n square ≡ uppersOf n square₀) × (belowsOf n square ≡ clearedTo k (belowsOf n square₀))

@@ -12,9 +12,10 @@ use mathlib.Core.List.{List, _++_}
 use native.Mathlib.Nat.{mul-le-mul}
 use lib.Ieee.{Float, ofBits}
 use Rattle.leaves.specs.Number.{plusZero}
-use Rattle.leaves.specs.Square.{Square, uppersOf, belowsOf, zeros}
+use Rattle.leaves.specs.Square.{uppersOf, belowsOf, zeros}
 use Rattle.factor.proofs.room.clear_column.Statement.{statement}
 use Rattle.factor.proofs.room.clear_column.Tie as tie
+use Rattle.leaves.specs.inner.Squares.{Square}
 
 module _ (n k a : ℕ) (y s : List Float) (q : Square n s) (h : k < n) (e : a ≡ k * n + suc k) (f : y ≡ zeros (length (take (k * n + n - a) (drop a s)))) where
   end-zero : y ≡ zeros (n - suc k)

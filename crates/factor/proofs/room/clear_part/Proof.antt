@@ -7,9 +7,10 @@ use mathlib.Core.List.{List}
 use lib.Ieee.{Float, ofBits}
 use Rattle.leaves.specs.Number.{plusZero}
 use Rattle.leaves.specs.Square.{zeros}
-use Rattle.factor.specs.Room.{load, withPart}
+use Rattle.factor.specs.Room.{load}
 use Rattle.factor.proofs.room.clear_part.Statement.{statement}
 use Rattle.factor.proofs.room.clear_part.Tie as tie
+use Rattle.factor.specs.inner.Rooms.{withPart}
 
 part-at-requires : tie.Need-part-at-requires
 part-at-requires c κs = search needs

@@ -3,10 +3,11 @@ use mathlib.Core.Path.{sym, ap, _∙_}
 use borrow.Author.Needs.{needs}
 use Rattle.factor.proofs.Lent.{emptied-as, square-lent}
 use Rattle.factor.proofs.Layouts.{laid, load-shaped, square-of, square-upper, square-below}
-use Rattle.factor.specs.Room.{Room, withPart}
+use Rattle.factor.specs.Room.{Room}
 use Rattle.leaves.specs.Square.{zeros, cleared}
 use Rattle.factor.proofs.room.empty_room.Statement.{statement}
 use Rattle.factor.proofs.room.empty_room.Tie as tie
+use Rattle.factor.specs.inner.Rooms.{withPart}
 
 mul-whole : tie.Need-mul-whole
 mul-whole c = search needs

@@ -3,10 +3,11 @@ use mathlib.Core.Path.{ap, _∙_}
 use borrow.Author.Needs.{needs}
 use Rattle.factor.proofs.Lent.{left-as}
 use Rattle.factor.proofs.Layouts.{laid, load-shaped}
-use Rattle.factor.specs.Room.{Room, withPart}
+use Rattle.factor.specs.Room.{Room}
 use Rattle.leaves.specs.Square.{zeros}
 use Rattle.factor.proofs.room.put_damped.Statement.{statement}
 use Rattle.factor.proofs.room.put_damped.Tie as tie
+use Rattle.factor.specs.inner.Rooms.{withPart}
 
 put-part-requires : tie.Need-put-part-requires
 put-part-requires c κs = search needs

@@ -4,11 +4,12 @@ use borrow.Author.Needs.{needs}
 use lib.ListN.{length}
 use Rattle.leaves.proofs.Folds.{copy-leaves}
 use Rattle.factor.proofs.Lent.{part-read, part-fits, part-lent}
-use Rattle.factor.specs.Room.{load, withPart}
+use Rattle.factor.specs.Room.{load}
 use mathlib.Core.List.{List}
 use lib.Ieee.{Float}
 use Rattle.factor.proofs.room.put_part.Statement.{statement}
 use Rattle.factor.proofs.room.put_part.Tie as tie
+use Rattle.factor.specs.inner.Rooms.{withPart}
 
 part-at-requires : tie.Need-part-at-requires
 part-at-requires c κs = search needs

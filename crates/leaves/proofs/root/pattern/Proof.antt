@@ -2,7 +2,7 @@
 use mathlib.Core.Path.{sym, ap, _∙_}
 use Prim.Native.Nat.{ℕ, _*_, _^_}
 use borrow.Author.Needs.{needs}
-use Rattle.leaves.specs.Parts.{magnitude}
+use Rattle.leaves.specs.inner.Parts.{magnitude}
 use mathlib.Core.Logic.{⊎-elim}
 use native.Mathlib.Omega.{arith}
 use Rattle.leaves.proofs.root.Scaled.{scaled-even, scaled-odd, packs}

@@ -4,11 +4,11 @@ use mathlib.Core.Path.{_≡_, ap, subst}
 use native.Mathlib.Omega.{arith}
 use borrow.Author.Needs.{needs}
 use lib.ListN.{length, length-take}
-use Rattle.measures.specs.Rescale.{parametersRead}
 use Rattle.measures.specs.declared.scaling.Mode.{Mode}
 use Rattle.measures.proofs.scaling.Scalings.{first-all, unscaled-all, later-all, kept-all}
 use Rattle.measures.proofs.scaling.rescale.Statement.{statement}
 use Rattle.measures.proofs.scaling.rescale.Tie as tie
+use Rattle.measures.specs.inner.Reads.{parametersRead}
 
 room16-requires : tie.Need-room16-requires
 room16-requires c κs = search needs

@@ -8,7 +8,7 @@ use lib.ListN.{length, take, length-set}
 use lib.Seq.{getD-take}
 use lib.Ieee.{nan}
 use Rattle.leaves.specs.Norm.{norm}
-use Rattle.reduce.specs.Bench.{grid}
+use Rattle.reduce.specs.inner.Bench.{grid}
 use Rattle.leaves.proofs.Overs.{over, over-turn, over-end}
 use Rattle.reduce.proofs.Begins.{norms-length, norms-at, bench-wide}
 use Rattle.reduce.proofs.beginning.norms_in.Statement.{statement}

@@ -8,7 +8,7 @@ use lib.ListN.{length, getD, length-map}
 use lib.Ieee.{nan}
 use Rattle.leaves.specs.Norm.{norm}
 use Rattle.reduce.specs.Reduction.{Reduction}
-use Rattle.reduce.specs.Bench.{underWay}
+use Rattle.reduce.specs.inner.Bench.{underWay}
 use Rattle.reduce.proofs.Pivots.{first-norm}
 use Rattle.reduce.proofs.reduce.first_pivot.Statement.{statement}
 use Rattle.reduce.proofs.reduce.first_pivot.Tie as tie

@@ -7,7 +7,7 @@ use lib.ListN.{take, drop, length-take, length-drop}
 use lib.Seq.{take-all}
 use Rattle.leaves.specs.Vector.{imaxOf}
 use Rattle.leaves.proofs.Folds.{nonzero}
-use Rattle.reduce.specs.Bench.{grid, underWay}
+use Rattle.reduce.specs.inner.Bench.{grid, underWay}
 use Rattle.reduce.proofs.Pivots.{pivot-moves, pivot-stays}
 use Rattle.reduce.proofs.reduce.pivot.Statement.{statement}
 use Rattle.reduce.proofs.reduce.pivot.Tie as tie

@@ -6,7 +6,7 @@ use lib.ListN.{drop}
 use lib.Seq.{getD-take}
 use lib.Ieee.{Float}
 use Rattle.leaves.specs.Norm.{norm}
-use Rattle.reduce.specs.Bench.{grid}
+use Rattle.reduce.specs.inner.Bench.{grid}
 use Rattle.reduce.proofs.Begins.{kept-bench}
 use Rattle.reduce.proofs.reduce.pivot_norm.Statement.{statement}
 use Rattle.reduce.proofs.reduce.pivot_norm.Tie as tie

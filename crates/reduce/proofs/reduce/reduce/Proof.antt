@@ -9,7 +9,7 @@ use Rattle.leaves.specs.Loop.{upto}
 use Rattle.leaves.proofs.Loops.{upto-none, upto-turn}
 use Rattle.leaves.specs.Norm.{norm}
 use Rattle.reduce.specs.Reduction.{Reduction, reduced}
-use Rattle.reduce.specs.Bench.{underWay}
+use Rattle.reduce.specs.inner.Bench.{underWay}
 use Rattle.reduce.proofs.Begins.{kept-bench}
 use Rattle.reduce.proofs.reduce.reduce.Statement.{statement}
 use Rattle.reduce.proofs.reduce.reduce.Tie as tie

@@ -6,7 +6,7 @@ use borrow.Author.Needs.{needs}
 use lib.ListN.{length-take, length-set}
 use lib.Seq.{length-take-le, length-front}
 use lib.Ieee.{ofBits}
-use Rattle.reduce.specs.Bench.{underWay}
+use Rattle.reduce.specs.inner.Bench.{underWay}
 use Rattle.reduce.proofs.Begins.{kept-bench}
 use Rattle.reduce.proofs.Pivots.{reduced-zero, reduced-by}
 use Rattle.reduce.proofs.reduce.reduce_column.Statement.{statement}

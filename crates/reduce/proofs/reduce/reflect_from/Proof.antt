@@ -8,7 +8,7 @@ use lib.ListN.{getD, drop, length-set}
 use lib.Seq.{getD-take}
 use Rattle.leaves.proofs.Squares.{columns-length}
 use Rattle.reduce.specs.Reduction.{reflectFrom}
-use Rattle.reduce.specs.Bench.{grid, underWay}
+use Rattle.reduce.specs.inner.Bench.{grid, underWay}
 use Rattle.reduce.proofs.Begins.{kept-bench}
 use Rattle.reduce.proofs.Pivots.{last-column, swept-by, reflected-by}
 use Rattle.reduce.proofs.reduce.reflect_from.Statement.{statement}

@@ -5,7 +5,7 @@ use native.Mathlib.Omega.{arith}
 use borrow.Author.Needs.{needs}
 use native.Mathlib.Numerals.{add-one}
 use lib.ListN.{length}
-use Rattle.reduce.specs.Bench.{grid}
+use Rattle.reduce.specs.inner.Bench.{grid}
 use Rattle.leaves.proofs.Squares.{columns-length}
 use Rattle.leaves.proofs.Grids.{column-long}
 use Rattle.reduce.proofs.Pivots.{fronts, fronts-none, fronts-turn, fronts-all}

@@ -5,7 +5,7 @@ use native.Mathlib.Omega.{arith}
 use borrow.Author.Needs.{needs}
 use lib.ListN.{length, length-set}
 use Rattle.leaves.proofs.Folds.{front, front-turn, front-end}
-use Rattle.reduce.specs.Bench.{divided}
+use Rattle.reduce.specs.inner.Bench.{divided}
 use Rattle.reduce.proofs.reflect.Reductions.{divided-length, divided-at}
 use Rattle.reduce.proofs.reflect.divide.Statement.{statement}
 use Rattle.reduce.proofs.reflect.divide.Tie as tie

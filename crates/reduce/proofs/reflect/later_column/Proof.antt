@@ -1,7 +1,7 @@
 -- `reduce::reflect::later_column` meets its contract. Assumes nothing.
 use native.Mathlib.Omega.{arith}
 use Prim.Native.Nat.{suc}
-use Rattle.reduce.specs.Bench.{grid}
+use Rattle.reduce.specs.inner.Bench.{grid}
 use Rattle.leaves.proofs.Squares.{columns-length}
 use Rattle.reduce.proofs.Begins.{kept-bench}
 use Rattle.reduce.proofs.reflect.Reductions.{later-law}

@@ -7,7 +7,7 @@ use native.Mathlib.Numerals.{add-one}
 use lib.ListN.{length}
 use Rattle.leaves.specs.Loop.{between}
 use Rattle.reduce.specs.Reduction.{later}
-use Rattle.reduce.specs.Bench.{Steps}
+use Rattle.reduce.specs.inner.Bench.{Steps}
 use Rattle.leaves.proofs.Loops.{between-none, between-turn}
 use Rattle.reduce.proofs.Begins.{kept-bench}
 use Rattle.reduce.proofs.reflect.later_columns.Statement.{statement}

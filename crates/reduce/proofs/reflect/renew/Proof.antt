@@ -7,7 +7,7 @@ use mathlib.Core.List.{[]}
 use lib.ListN.{getD, length-set}
 use lib.Ieee.{ofBits}
 use Rattle.leaves.specs.Norm.{norm}
-use Rattle.reduce.specs.Bench.{grid}
+use Rattle.reduce.specs.inner.Bench.{grid}
 use Rattle.leaves.proofs.Grids.{grid-read, tail-part}
 use Rattle.reduce.proofs.reflect.Reductions.{renewed-zero, renewed-anew, renewed-less}
 use Rattle.reduce.proofs.reflect.renew.Statement.{statement}

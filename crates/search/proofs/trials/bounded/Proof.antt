@@ -8,7 +8,7 @@ use Rattle.factor.specs.Room.{load}
 use Rattle.search.specs.Problem.{placed}
 use Rattle.search.specs.Bounds.{lowerBound}
 use Rattle.search.specs.Search.{problemOf}
-use Rattle.search.specs.Read.{unanswered}
+use Rattle.search.specs.inner.Read.{unanswered}
 use Rattle.search.proofs.trials.Bounding.{lower-asked, gnorm-asked, no-lower, no-gnorm, to-trials, first-is, asked-trials}
 use Rattle.search.proofs.trials.bounded.Statement.{statement}
 use Rattle.search.proofs.trials.bounded.Tie as tie

@@ -15,7 +15,7 @@ use Rattle.factor.specs.Room.{load, emptied}
 use Rattle.search.specs.Problem.{Problem, placed, scaledStep}
 use Rattle.search.specs.Run.{trialsFrom}
 use Rattle.search.specs.Search.{problemOf, concluded}
-use Rattle.search.specs.Read.{Ready, unanswered, nextOf, bare}
+use Rattle.search.specs.inner.Read.{Ready, unanswered, nextOf, bare}
 use Rattle.search.proofs.Trying.{Tried, at-lambda, at-norm, at-ten, at-within, at-falling, at-correction, goes-on, again, next-same, mine, told}
 use Rattle.search.proofs.Workings.{ready-after}
 use Rattle.search.proofs.trials.Turning.{step-asked, scaled-asked, damped-kept, correction-asked}

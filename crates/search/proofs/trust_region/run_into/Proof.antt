@@ -4,7 +4,7 @@ use borrow.Author.Needs.{needs}
 use Rattle.factor.specs.Room.{load, lay}
 use Rattle.search.specs.Problem.{placed}
 use Rattle.search.specs.Search.{problemOf}
-use Rattle.search.specs.Read.{withStep}
+use Rattle.search.specs.inner.Read.{withStep}
 use Rattle.search.specs.declared.trust_region.Found.{Found}
 use Rattle.search.proofs.Workings.{ready-after}
 use Rattle.search.proofs.Calling.{placing, placed-long, step-placed, step-written, not-written}

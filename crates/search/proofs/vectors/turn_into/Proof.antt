@@ -8,7 +8,7 @@ use lib.Seq.{length-take-le}
 use Rattle.leaves.proofs.Folds.{front, front-turn, front-end}
 use Rattle.factor.specs.Solve.{gather}
 use Rattle.factor.proofs.Solves.{gather-length}
-use Rattle.search.specs.Read.{turnedBy}
+use Rattle.search.specs.inner.Read.{turnedBy}
 use Rattle.search.proofs.Lists.{turned-at, gathered-at}
 use Rattle.search.proofs.vectors.turn_into.Statement.{statement}
 use Rattle.search.proofs.vectors.turn_into.Tie as tie

@@ -4,7 +4,7 @@ use mathlib.Core.Path.{_≡_, sym}
 use lib.ListN.{length}
 use lib.Seq.{length-take-le}
 use Rattle.sheet.proofs.Printing.{taken, lines-refused, lines-printed}
-use Rattle.sheet.specs.Fit.{answerOf}
+use Rattle.sheet.specs.Fit.{fitOf}
 use borrow.Author.Needs.{needs}
 use Rattle.sheet.proofs.lines.write_lines.Statement.{statement}
 use Rattle.sheet.proofs.lines.write_lines.Tie as tie
@@ -13,7 +13,7 @@ check-lines-requires : tie.Need-check-lines-requires
 check-lines-requires c κs = search needs
 
 returns : tie.Need-returns
-returns c = lines-refused (answerOf (c .before .before .before .before .args .a)) (c .before .before .before .before .args .step .now) (c .before .before .before .before .args .text .now) (c .before .check-lines .ensures) (c .if1 .taken)
+returns c = lines-refused (fitOf (c .before .before .before .before .args .a)) (c .before .before .before .before .args .step .now) (c .before .before .before .before .args .text .now) (c .before .check-lines .ensures) (c .if1 .taken)
 
 text-room-requires : tie.Need-text-room-requires
 text-room-requires c κs = search needs
@@ -40,7 +40,7 @@ returns-2 : tie.Need-returns-2
 returns-2 c =
     let n = c .before .before .before .before .before .before .answer-lines in
     let l : length (c .before .before .before .before .before .before .before .before .text-room .result) ≡ 1024 = c .before .before .before .before .before .before .before .before .text-room .ensures in
-    lines-printed (answerOf (c .before .before .before .before .before .before .before .before .before .before .before .before .before .args .a)) (c .before .before .before .before .before .before .before .before .before .before .before .before .before .args .step .now) (c .before .before .before .before .before .before .before .before .before .before .before .before .before .args .text .now) (c .before .before .before .before .before .before .before .before .before .before .check-lines .ensures) (c .before .before .before .before .before .before .before .before .before .if1 .left) (taken _ (c .before .before .before .before .before .before .before .before .text-room .result) (n .ensures .0) (omega (arith, n .ensures .1))) (c .before .before .print .ensures)
+    lines-printed (fitOf (c .before .before .before .before .before .before .before .before .before .before .before .before .before .args .a)) (c .before .before .before .before .before .before .before .before .before .before .before .before .before .args .step .now) (c .before .before .before .before .before .before .before .before .before .before .before .before .before .args .text .now) (c .before .before .before .before .before .before .before .before .before .before .check-lines .ensures) (c .before .before .before .before .before .before .before .before .before .if1 .left) (taken _ (c .before .before .before .before .before .before .before .before .text-room .result) (n .ensures .0) (omega (arith, n .ensures .1))) (c .before .before .print .ensures)
 
 pub write-lines-spec : {M : Type 1} → statement M
 write-lines-spec =

@@ -6,7 +6,7 @@ use lib.ListN.{length-append}
 use Rattle.sheet.proofs.Texts.{lands-next, behind, put-put, decimal-short, joined-step}
 use Rattle.text.specs.Put.{decimalOf}
 use Rattle.sheet.specs.Lines.{stepWord, double}
-use Rattle.sheet.specs.Inner.{put}
+use Rattle.sheet.specs.inner.Handed.{put}
 use Prim.Native.Nat.{ℕ}
 use borrow.Author.Needs.{needs}
 use Rattle.sheet.proofs.put.step_line.Statement.{statement}

@@ -6,7 +6,7 @@ use lib.ListN.{length, drop}
 use Prim.Native.Nat.{_+_, _*_, _-_, _≤_}
 use Rattle.sheet.proofs.Texts.{step-turn, step-end}
 use Rattle.sheet.specs.Lines.{stepLines}
-use Rattle.sheet.specs.Inner.{put}
+use Rattle.sheet.specs.inner.Handed.{put}
 use Rattle.sheet.proofs.put.step_lines.Statement.{statement}
 use Rattle.sheet.proofs.put.step_lines.Tie as tie
 

@@ -1,10 +1,11 @@
 -- `sheet::seek::as_searched` meets its contract. Assumes nothing.
 use mathlib.Core.Path.{sym, ap}
-use Rattle.sheet.specs.Fit.{searched, mapped, soughtOf}
+use Rattle.sheet.specs.Fit.{searched, mapped}
 use Rattle.sheet.specs.declared.seek.Sought.{Sought}
 use borrow.Author.Needs.{needs}
 use Rattle.sheet.proofs.seek.as_searched.Statement.{statement}
 use Rattle.sheet.proofs.seek.as_searched.Tie as tie
+use Rattle.sheet.specs.inner.Handed.{soughtOf}
 
 enum-known-a : tie.Need-enum-known-a
 enum-known-a c = search needs

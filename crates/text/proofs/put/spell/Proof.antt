@@ -5,10 +5,10 @@ use native.Mathlib.Omega.{arith}
 use borrow.Author.Needs.{needs}
 use lib.ListN.{length, length-set}
 use Rattle.text.specs.Digit.{glyph}
-use Rattle.text.specs.Put.{putFrom}
 use Rattle.text.proofs.Places.{put-turn, put-end, mod-small}
 use Rattle.text.proofs.put.spell.Statement.{statement}
 use Rattle.text.proofs.put.spell.Tie as tie
+use Rattle.text.specs.inner.Spelling.{putFrom}
 
 abbrev Inv-loop : tie.InvT-loop
 Inv-loop n base k out₀ at rest₀ i₀ out rest i = (i ≤ k) × (length out ≡ length out₀) × (putFrom base i rest at out ≡ putFrom base k n at out₀)

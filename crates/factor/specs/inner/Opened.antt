@@ -1,6 +1,6 @@
 -- One name for every definition of the crates below and of this crate, so that a table of examples says `unfolding opened` and computes with them.
-use Rattle.reduce.specs.Opened.{opened as reduce}
-use Rattle.eliminate.specs.Opened.{opened as eliminate}
+use Rattle.reduce.specs.inner.Opened.{opened as reduce}
+use Rattle.eliminate.specs.inner.Opened.{opened as eliminate}
 use Rattle.factor.specs.Room.{part, load, lay, leaving}
 use Rattle.factor.specs.Tests.{absent, distinctBelow}
 use Rattle.factor.specs.Factoring.{upperColumn, uppers, transformed, noLower, factoredRoom, allFiniteIn, finiteRoom, factorWorked, factorCall}

@@ -15,15 +15,9 @@ use Rattle.search.specs.Bounds.{lowerBound, gnorm, upperBound, firstLamb
 use Rattle.search.specs.Run.{Run, Next, Trial, finite, lower-bound, gradient-norm, trialsFrom}
 use Rattle.search.specs.Search.{Answer, answer, problemOf}
 use Rattle.factor.specs.Room.{load}
-use Rattle.search.specs.declared.LMParameter.{LMParameter}
 use Rattle.search.specs.declared.bounds.Going.{Going}
 use Rattle.search.specs.declared.trust_region.Found.{Found}
 use Rattle.search.specs.declared.trust_region.Found.the-variants as found
-
--- 01, 'Refusal numbers': what a search answers
-abbrev pub foundOf : Found → Reply LMParameter
-foundOf (found.Answer a) = answered a
-foundOf (found.Refused k) = refused k
 
 -- and with the step beside it
 abbrev pub withStep : Found → List Float → Reply Answer

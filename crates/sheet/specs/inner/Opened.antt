@@ -1,7 +1,7 @@
 -- One name for every definition below and of this crate, so that a table of examples says `unfolding opened` and computes with them.
 use lib.Ieee.{toBits}
-use Rattle.measures.specs.Opened.{opened as measures}
-use Rattle.search.specs.Opened.{opened as search}
+use Rattle.measures.specs.inner.Opened.{opened as measures}
+use Rattle.search.specs.inner.Opened.{opened as search}
 use Rattle.text.specs.Digit.{glyph}
 use Rattle.text.specs.Put.{digits, placesFrom, placesOf, decimalOf}
 use Rattle.sheet.specs.Sheet.{big, headOf, doubles, countOf, taskOf, jobOf}

@@ -1,5 +1,5 @@
 -- One name for every definition of the crates below and of this crate, so that a table of examples says `unfolding opened` and computes with them.
-use Rattle.factor.specs.Opened.{opened as factor}
+use Rattle.factor.specs.inner.Opened.{opened as factor}
 use Rattle.measures.specs.Gradient.{measures, largest, gradient, combined, jxNorm}
 use Rattle.measures.specs.Scaling.{firstScaling, laterScaling, radiusOf}
 use Rattle.measures.specs.Determined.{leading, determinedOf}

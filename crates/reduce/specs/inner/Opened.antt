@@ -1,5 +1,5 @@
 -- One name for every definition of the leaves and of this crate, so that a table of examples says `unfolding opened` and computes with them.
-use Rattle.leaves.specs.Opened.{opened as leaves}
+use Rattle.leaves.specs.inner.Opened.{opened as leaves}
 use Rattle.reduce.specs.Reduction.{swap, pivoted, axisBy, reflect, reflectFrom, shrunk, twentieth, renewed, later, signed, reflected, reduced, start, reduction-of}
 use Rattle.reduce.specs.Reduced.{flat, reduceCall}
 

@@ -1,0 +1,3 @@
+-- What the laws and the examples cite, and no statement of a demand.
+pub mod Helds
+pub mod Opened
