@@ -1,8 +1,9 @@
 -- The three demands, as theorems. Read from top to bottom; each theorem is proved in the file that it cites.
 --
 -- They are over the definitions that the contracts of the public functions cite: each contract is one equation with its definition. `proofs/Ties.antt`
--- says for each function that takes a state, and for factoring, that whatever its contract lets it leave (answer, state and every lent slice) is what
--- `perform c st order store` gives, or `factorCall`. Beside each contract stands a theorem that no second outcome fits it (`NAME-one-outcome`).
+-- says for each function that takes a state, for factoring and for a sheet, that whatever its contract lets it leave (answer, state and every lent
+-- slice) is what `perform c st order store` gives, `factorCall` or `sheetCall`. Beside each contract stands a theorem that no second outcome fits it
+-- (`NAME-one-outcome`). The words that the statements use stand in `specs/` of the crates that they speak of (`tools/believed` lists them).
 --
 -- Assumes nothing.
 use Prim.Native.Nat.{ℕ, _<_, _≤_}
@@ -289,5 +290,5 @@ module _ (st : State) (order : List ℕ) (diag : List Float) (radius lambda : Fl
   demand-3-stop-rules = rules-hold asked lambda
 
 -- What a technician wants to hear of an answered search: `proofs/AnsweredSearch.antt`.
--- Closed witnesses, computed: `proofs/Witnesses.antt` (document 01's F, G and K, each stop rule, each place of refusal 8) and
+-- Closed witnesses, computed: `crates/search/proofs/Witnesses.antt` (document 01's F, G and K, each stop rule, each place of refusal 8) and
 -- `proofs/CallWitnesses.antt` (each refusal number of the search; 0, 1 and 10 trials; a zero solve, a damped solve refused 8, a held call answered 5).

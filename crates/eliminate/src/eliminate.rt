@@ -1,5 +1,6 @@
 // Document 01, module 5, elimination in place. R is mirrored, so that column k holds row k of R from its diagonal on; each entry of the
-// diagonal begins a new row, which is rotated into these rows one after the other. What is left there is Lᵀ by rows, L by columns.
+// diagonal begins a new row, which is rotated into these rows one after the other. What is left there is Lᵀ by rows, L by columns. The
+// mirror is the Rust's; rotations from R's rows would need none. A row and the new row are lent from place k on, as is quickest.
 use leaves::number::abs;
 use leaves::number::abs_below;
 use leaves::root::sqrt_quarter;

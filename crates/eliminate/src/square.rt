@@ -32,7 +32,7 @@ fn check(n: usize, square: usize, ds: usize, rhs: usize, ldiag: usize) -> u8
 // the right side, on exit what the rotations make of it. ldiag: n numbers, not read; on exit L's diagonal.
 // Refused 2 for n outside 1 to 16, 3 where a slice is not of its exact length; every slice is then as it was.
 // The working is called at two places, or it would be built in here, and the tests not into the callers, who know that they pass
-// (docs/SPEED.md).
+// (docs/DECISIONS.md, D74).
 pub fn eliminate_diag(
     n: usize,
     square: &mut [f64],

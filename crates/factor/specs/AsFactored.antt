@@ -1,5 +1,6 @@
 -- 01, 'Lent room and what stays in it': 'After factoring: the square has R on and above its diagonal, +0 below; l_diag is +0'; work is
--- +0; and no number of R, of qt_b or of the column norms is other than finite, for such a factoring is refused 8.
+-- +0; and no number of R, of qt_b or of the column norms is other than finite, for such a factoring is refused 8. `proofs/Answered.antt`
+-- proves it of every answered factoring.
 use Prim.Native.Nat.{ℕ}
 use mathlib.Core.Path.{_≡_}
 use mathlib.Core.Bool.{true}

@@ -1,5 +1,6 @@
 // Document 01, 'Refusal numbers, tested in this order': the tests that calls share, here and in the crates above, on numbers and lengths:
-// what is held, the sizes, how long slices are. Each answers the number of the first test that fails, 0 for none.
+// what is held, the sizes, how long slices are. Each answers the number of the first test that fails, 0 for none. They take the parts of a
+// state and no `State`, since what takes a state is a call (docs/DECISIONS.md, D70).
 use crate::state::Held;
 use leaves::sizes::least;
 use leaves::sizes::outside;

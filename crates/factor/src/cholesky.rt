@@ -1,5 +1,6 @@
 // Document 01, 'Lent room': the held calls (`CholeskyFactor`), with what the last solve left in the store. Each stands once, on a store that
-// is only read; the call on a lent store is that, and work cleared.
+// is only read; the call on a lent store is that, and work cleared. The Rust's `solve` hands the memory of its right side back as the
+// answer; here the right side is only read and the answer goes to a lent output, so that a refusal leaves both as they were.
 use crate::check::is_nothing;
 use crate::check::ordered;
 use crate::check::room;

@@ -1,5 +1,6 @@
 // Document 01, modules 4 and 5: the solves. What they work out, before it is tested for finite numbers and written, is also what a search
-// asks for (`pivot_order`): there a number that is not finite may go on where a solve refuses it.
+// asks for (`pivot_order`): there a number that is not finite may go on where a solve refuses it. A solve's numbers stand in a local array
+// first: "Outputs are unwritten on every refusal", 8 too.
 use crate::check::ordered;
 use crate::room::copy_part;
 use crate::room::empty_room;

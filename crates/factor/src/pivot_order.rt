@@ -1,6 +1,7 @@
 // Document 01, module 7: the solves of a search, between its tests and its end. They are in pivot order, without an order list, and read the
 // store; tests 4 to 8 are the search's. They are workings on numbers that are lent: sizes and slices, and no state, so that they can leave
-// none false.
+// none false (docs/DECISIONS.md, D14 and D70). `zero_numbers` and `damped_numbers` make the calls of `least_squares`'s steps and cite the
+// same definitions, but are functions of their own: then each is built into its caller (docs/SPEED.md).
 use crate::answer::Truth;
 use crate::check::sizes;
 use crate::holding::mul_zero;

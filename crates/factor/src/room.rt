@@ -1,4 +1,5 @@
-// Document 01, 'Lent room and what stays in it': the only code that knows where in a store things stand.
+// Document 01, 'Lent room and what stays in it': the only code that knows where in a store things stand. Workings have their vectors in
+// arrays of their own and only ever clear work: nothing of a call can live on in it.
 ghost use mathlib.Core.Path.{_≡_};
 ghost use Prim.Native.Nat.{suc, _+_, _-_, _*_, _<_, _≤_};
 ghost use lib.ListN.{length, set};

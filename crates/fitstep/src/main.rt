@@ -1,7 +1,7 @@
 // Document 01's program: one job sheet from standard input, its lines on standard output.
 //
 // One byte more is read than the longest sheet has, 3 + 8 · (128 · 16 + 128 + 16 + 2) of them: a longer input is then refused by its length,
-// as the whole of it would be (`overlong` in crates/sheet/proofs/Overlong.antt).
+// as the whole of it would be (`overlong` in crates/sheet/proofs/Overlong.antt). A failed read counts as the end (D63 of docs/DECISIONS.md).
 //
 // Proved: it is safe and ends; what it is handed and what it prints are one equation with a definition (`fit_lines`). Assumed: the
 // contracts of the C functions `read` and `write`.

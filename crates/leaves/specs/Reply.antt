@@ -1,4 +1,6 @@
--- 01, 'Refusal numbers': a call gives a value or one of the numbered refusals. Each enum of the code is read as one of these two.
+-- 01, 'Refusal numbers': a call gives a value or one of the numbered refusals. Each enum of the code is read as one of these two: "Where an
+-- answer is an enum, a definition gives this paper's number and values for each of its cases." Two that are read alike are the same
+-- (`proofs/Replies.antt`). The norm's answer alone is a struct (`carried` in `specs/Norm.antt`).
 use Prim.Native.Nat.{ℕ}
 use lib.Ieee.{Float}
 use Rattle.leaves.specs.declared.reply.Value.{Value}

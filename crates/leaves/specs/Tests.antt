@@ -1,4 +1,5 @@
--- 01, 'Refusal numbers, tested in this order': a call's tests as a list of conditions with their numbers; sizes; finite and zero tests.
+-- 01, 'Refusal numbers, tested in this order': a call's tests as a list of conditions with their numbers; sizes; finite and zero tests. A
+-- call's definition lists the tests whose subject it has, and `refused-iff` in `proofs/Refusals.antt` says what that gives, for any list.
 use Prim.Native.Nat.{ℕ}
 use mathlib.Core.Bool.{Bool, true, cond, not, _&&_, _||_}
 use mathlib.Core.List.{List, [], _∷_}

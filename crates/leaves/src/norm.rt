@@ -150,7 +150,7 @@ pub struct Normed {
 //
 // v: at most 128 numbers, only read. Of none the norm is +0.
 // Refused 2 for more; the value is then +0 and means nothing.
-// The sum is called at two places, or it would be built in here and the answer go through memory (docs/SPEED.md).
+// The sum is called at two places, or it would be built in here and the answer go through memory (docs/DECISIONS.md, D74).
 pub fn enorm(v: &[f64]) -> Normed
     ensures { λ r. ⌜ r ≡ carried (enormOf (now (v .entry))) ⌝ }
 {

@@ -1,4 +1,5 @@
-// Document 01, 'Leaf rules': the helpers on one or two numbers, and the constants.
+// Document 01, 'Leaf rules': the helpers on one or two numbers, and the constants. Max and min test their first operand alone for NaN: a NaN
+// compares with nothing, so the first is kept where the second is one.
 ghost use mathlib.Core.Path.{_≡_};
 ghost use lib.Ieee.{lt, le};
 ghost use Rattle.leaves.specs.Number.{isNegative, absOf, maxOf, minOf, squareOf, isFinite, epsmch as epsmchOf, dwarf as dwarfOf};

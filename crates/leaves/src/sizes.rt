@@ -1,4 +1,5 @@
-// Document 01, 'Sizes' and test 2; and what every later module needs for a number of each column.
+// Document 01, 'Sizes' and test 2; and what every later module needs for a number of each column. Test 2 stands here and not in `factor`,
+// because `reduce` and `eliminate`, below it, make it too.
 ghost use mathlib.Core.Path.{_≡_};
 ghost use Prim.Native.Nat.{min};
 ghost use lib.ListN.{replicate};

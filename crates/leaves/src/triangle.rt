@@ -1,4 +1,5 @@
-// Document 01, 'Leaf rules', upper triangular solve.
+// Document 01, 'Leaf rules', upper triangular solve. The distance between columns is a number of its own, as MINPACK's `ldr` is: document
+// 01's square has its columns n apart, and `factor` says so once (`load` and `lay`).
 use crate::reply::Done;
 use crate::vector::axpy;
 ghost use mathlib.Core.Path.{_≡_};

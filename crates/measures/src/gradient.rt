@@ -1,4 +1,5 @@
-// Document 01, module 6: the gradient's measure (`max_a_t_b_scaled`) and the norm of Jx (`a_x_norm`).
+// Document 01, module 6: the gradient's measure (`max_a_t_b_scaled`) and the norm of Jx (`a_x_norm`). Norms and x are read inside the loops
+// at the columns that the order list names, and not from a copy in pivot order.
 use crate::wrap::axpy_of;
 use crate::wrap::dot_of;
 use crate::wrap::norm_of;

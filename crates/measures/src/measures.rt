@@ -1,5 +1,5 @@
 // Document 01, module 6: the gradient, the norm of Jx, determined, and whether A has rank n, each with all its tests.
-// After a call that passed its checks work is +0, and nothing else of the store is changed.
+// After a call that passed its checks work is +0, and nothing else of the store is changed. The last two take no order list: no test 4.
 use crate::gradient::Gradient;
 use crate::gradient::divide_all;
 use crate::gradient::jx_norm;

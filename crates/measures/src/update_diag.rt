@@ -1,4 +1,5 @@
-// Document 01, module 6: the scaling as callers see it, with all its tests.
+// Document 01, module 6: the scaling as callers see it, with all its tests. The lent scaling holds n numbers in every mode, else it is
+// refused 3; the parameters x in the first modes only, which alone read them.
 use crate::scaling::Mode;
 use crate::scaling::Scaling;
 use crate::scaling::rescale;

@@ -1,6 +1,7 @@
 // Document 01, 'What must change shape': `CholeskyFactor` borrows its matrix: first functions over slices (`factor::cholesky`), then a small
-// reader that refers to the square, with two thin calls. A reader asks the state that it was made with. Its calls write the output and
-// nothing else: what they work with is their own.
+// reader that refers to the square, with two thin calls. Its slice is the store from the square on, in which qt_b and l_diag follow. A
+// reader asks the state that it was made with: without it, it would answer straight after a factoring, where document 01 refuses 5 (case
+// L). Its calls write the output and nothing else: what they work with is their own, so the store is lent shared.
 use factor::cholesky::mul_read;
 use factor::cholesky::solve_read;
 use factor::state::State;

@@ -1,4 +1,5 @@
-// Document 01, module 2: factoring with column pivoting. The residuals are the bench's last column.
+// Document 01, module 2: factoring with column pivoting. The residuals are the bench's last column, and take each
+// reflection as it arises (docs/DECISIONS.md, D45).
 use crate::reflect::later_columns;
 use crate::reflect::make_axis;
 use crate::reflect::reflect_column;

@@ -1,4 +1,5 @@
-// Leaves as the workings call them: on slices of fitting lengths there is no refusal, so a plain number or nothing comes back.
+// Leaves as the workings call them: on slices of fitting lengths there is no refusal, so a plain number or nothing comes back. A public
+// function may not require the lengths; these do, so they are not public and each crate has its own. They compile to nothing.
 use leaves::reply::Place;
 use leaves::reply::Value;
 ghost use mathlib.Core.Path.{_≡_};

@@ -1,5 +1,5 @@
 // The held calls through the reader, with a copy of the output, beside the slice functions on the rooms themselves: document 01,
-// 'What must change shape', has both, and their bits are to be equal.
+// 'What must change shape', has both, and their bits are to be equal. Where they are not, a line says so that no oracle prints.
 use crate::reply::After;
 use crate::reply::held;
 use crate::room;

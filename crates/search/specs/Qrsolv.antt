@@ -2,6 +2,7 @@
 -- own order of steps and of factors; a label on the left of a comment is the statement's. None of the base's elimination or solves is used: that they
 -- agree is proved in `proofs/AgainstQrsolv.antt`.
 -- A vector is a list, an array the list of its columns, and indices count from 0. A DO loop recurses over the turns that are left, its index after them.
+-- Why so, and not by rows as `eliminated` is: docs/DECISIONS.md, D76.
 use Prim.Native.Nat.{ℕ, zero, suc, _-_}
 use mathlib.Core.Bool.{true, false, cond, _&&_}
 use mathlib.Core.List.{List, [], _∷_, _++_, map}

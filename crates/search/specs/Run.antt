@@ -1,4 +1,5 @@
--- 01, module 7, 'Stop rules' and refusal 8: a whole run of the search: its trials, and what ended it.
+-- 01, module 7, 'Stop rules' and refusal 8: a whole run of the search: its trials, and what ended it. Trial ten is the base case, so that
+-- no arm for a spent counter makes up a refusal.
 use Prim.Native.Nat.{ℕ, zero, suc}
 use mathlib.Core.Bool.{Bool, true, false, _&&_}
 use mathlib.Core.List.{List}

@@ -1,5 +1,5 @@
 // Document 01, module 7: the solves that a search makes, and the numbers that it takes from them. A step stands in w in pivot order; the
-// scaled step v has its number for each column.
+// scaled step v has its number for each column. Only the scaled step is scattered in a trial, and the step of the answer at the end.
 use crate::vectors::norm_of;
 use crate::vectors::place_scaled;
 use crate::vectors::scale_by;

@@ -9,6 +9,7 @@ ghost use Rattle.factor.specs.Solve.{gather, scatter};
 ghost use Rattle.search.specs.Bounds.{quotients};
 ghost use Rattle.search.specs.inner.Read.{turnedBy};
 
+// The norm as a plain number, as `wrap` of the crates below has it.
 pub(crate) fn norm_of(v: &[f64]) -> f64
     requires { ⌜ length (now v) ≤ 128 ⌝ }
     ensures { λ r. ⌜ r ≡ norm (now (v .entry)) ⌝ }

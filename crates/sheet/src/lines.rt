@@ -1,4 +1,5 @@
-// Document 01, 'Job sheet and its program': the lines that are printed, in a lent buffer.
+// Document 01, 'Job sheet and its program': the lines that are printed, in a lent buffer. An answer that is to be printed may come from
+// anywhere, so it is tested. A sheet's own passes (`sheet-lines-free` in `proofs/Columns.antt`); then only the buffer can be too short.
 use crate::answer::Answer;
 use crate::answer::Fitted;
 use crate::job::fit;

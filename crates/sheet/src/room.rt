@@ -1,4 +1,5 @@
-// Rooms for the largest problem, 128 rows and 16 columns, all zero.
+// Rooms for the largest problem, 128 rows and 16 columns, all zero. One size serves every sheet: what a call answers depends neither on
+// what its rooms held nor on their surplus (demand 3).
 ghost use mathlib.Core.Path.{_≡_};
 ghost use lib.ListN.{length, replicate};
 ghost use Rattle.leaves.specs.Square.{zeros};

@@ -1,4 +1,5 @@
-// A double and its bits, with one NaN: 7FF8000000000000.
+// A double and its bits, with one NaN: 7FF8000000000000. Document 01: "All NaNs count as one value; which bits a NaN has is not promised";
+// with one pattern two workings can be compared line by line.
 ghost use mathlib.Core.Path.{_≡_};
 ghost use lib.Ieee.{binary64, ofBits, toBits};
 

@@ -82,7 +82,7 @@ fn the_stored_sample_is_the_oracles() {
         std::fs::read_to_string(replay.to_string() + name).unwrap()
     };
     let script: String = SAMPLE.iter().map(|items| script::text(items)).collect();
-    assert!(stored("stdin") == script, "make it anew: README.md");
+    assert!(stored("stdin") == script, "make it anew: oracle/README.md");
     assert!(stored("stdout") == printed(SHOWN, &SAMPLE));
     assert!(stored("stdout") == printed(PLAIN, &SAMPLE));
 }

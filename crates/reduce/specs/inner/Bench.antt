@@ -1,4 +1,4 @@
--- What the parts of factoring hand each other. No public contract cites these: what is promised stands in `Factor` and `Calls`.
+-- What the parts of the reduction hand each other. No public contract cites these: what is promised stands in `Reduced`.
 use Prim.Native.Nat.{ℕ, suc, _*_, _≤_}
 use mathlib.Core.Path.{_≡_}
 use mathlib.Core.Bool.{Bool}
