@@ -18,7 +18,7 @@ use Rattle.leaves.specs.Tests.{Test, firstOf}
 use Rattle.factor.specs.Factoring.{Factored, factored, factorTests, finiteRoom, factorWorked, factorCall}
 use Rattle.demands.specs.Calls.{replyNumber}
 use Rattle.leaves.proofs.Refusals.{refused-iff, passed-iff, call-refused, call-worked}
-use Rattle.demands.proofs.SearchTable.{first-small}
+use Rattle.demands.proofs.TestNumbers.{first-small}
 use Rattle.leaves.specs.Refusing.{NoneHold, RefusedBy}
 use Rattle.demands.specs.Factorings.{roomMade, factoringStands, factoringBreaks}
 

@@ -1,4 +1,5 @@
 -- The demands, and the laws that they stand on.
+pub mod TestNumbers
 pub mod Effects
 pub mod Leavings
 pub mod Reading

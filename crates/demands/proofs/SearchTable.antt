@@ -2,7 +2,7 @@
 -- before it, and then everything is as it came; refused 8 exactly when all tests are passed and the run ends at a place of refusal 8; answered
 -- exactly when they are passed and the run ends by a stop rule. Assumes nothing.
 use mathlib.Core.Path.{_≡_, refl, sym, ap, _∙_, subst}
-use mathlib.Core.Bool.{Bool, true, false, not, _&&_, _||_, and-eq-true-iff}
+use mathlib.Core.Bool.{Bool, true, false, not, _||_}
 use mathlib.Core.List.{List, [], _∷_}
 use mathlib.Core.Logic.{_↔_, _⊎_, inl, inr}
 use Prim.Native.Nat.{ℕ, _<_, min}
@@ -10,7 +10,7 @@ use native.Mathlib.Omega.{arith}
 use lib.Dec.{eqb, ltb}
 use lib.ListN.{length, take}
 use lib.Ieee.{Float}
-use borrow.Author.Tests.{ltb-true, eqb-true, eqb-false}
+use borrow.Author.Tests.{eqb-true, eqb-false}
 use Rattle.leaves.specs.Reply.{Reply, answered, refused}
 use Rattle.factor.specs.State.{isEmpty, withHeld, storeNeed}
 use Rattle.leaves.specs.Tests.{outside, Test, firstOf, noneZero}
@@ -29,17 +29,7 @@ use Rattle.search.specs.Ending.{ending}
 use Rattle.search.specs.declared.LMParameter.{LMParameter}
 use Rattle.search.proofs.Calling.{call-is-refused}
 use Rattle.leaves.specs.Refusing.{NoneHold, RefusedBy}
-
--- ---- the tests' numbers are below 8
-abbrev pub small : List Test → Bool
-small [] = true
-small (t ∷ ts) = ltb (t .1) 8 && small ts
-
-pub first-small : (ts : List Test) → small ts ≡ true → firstOf ts < 8
-unfolding firstOf
-first-small [] h = omega arith
-first-small ((true, k) ∷ ts) h = ltb-true k 8 (and-eq-true-iff (ltb k 8) (small ts) .0 h .0)
-first-small ((false, k) ∷ ts) h = first-small ts (and-eq-true-iff (ltb k 8) (small ts) .0 h .1)
+use Rattle.demands.proofs.TestNumbers.{first-small}
 
 -- ---- the number that is read off a run
 abbrev endNumber : Stop ⊎ Place → ℕ

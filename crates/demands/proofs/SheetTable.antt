@@ -3,7 +3,7 @@
 -- sheet writes nothing, and none is refused 4 or 5. Assumes nothing.
 use mathlib.Core.Path.{_≡_, refl, sym, ap, _∙_, subst}
 use mathlib.Core.Bool.{Bool, true, false, _&&_, _||_, and-eq-true-iff}
-use mathlib.Core.List.{List, [], _∷_}
+use mathlib.Core.List.{List}
 use mathlib.Core.Logic.{_↔_, _⊎_, inl, inr}
 use Prim.Native.Nat.{ℕ, _<_, _≤_}
 use native.Mathlib.Omega.{arith}
@@ -25,20 +25,11 @@ use Rattle.demands.proofs.SheetSeeking.{Ends}
 use Rattle.demands.proofs.SheetWorking.{worked-ends}
 use Rattle.leaves.specs.Refusing.{NoneHold, RefusedBy}
 use Rattle.demands.specs.Eight.{sheetWorking}
+use Rattle.demands.proofs.TestNumbers.{every, first-of}
 
 -- ---- the tests' numbers are 1, 2, 3, 6 and 7
 abbrev known : ℕ → Bool
 known k = (ltb k 4 || ltb 5 k) && ltb k 8
-
-abbrev listed : List Test → Bool
-listed [] = true
-listed (t ∷ ts) = known (t .1) && listed ts
-
-first-known : (ts : List Test) → listed ts ≡ true → known (firstOf ts) ≡ true
-unfolding firstOf
-first-known [] h = refl
-first-known ((true, k) ∷ ts) h = and-eq-true-iff (known k) (listed ts) .0 h .0
-first-known ((false, k) ∷ ts) h = first-known ts (and-eq-true-iff (known k) (listed ts) .0 h .1)
 
 abbrev Named : ℕ → Type 0
 Named k = (k ≤ 3) ⊎ ((6 ≤ k) × (k ≤ 8))
@@ -53,7 +44,7 @@ known-named k h =
     by true e g l = let a = ltb-true k 4 e in inl (omega arith)
     by false e g l = let a = ltb-true 5 k g in inr (omega arith, omega arith)
 
-task-listed : (t : Task) → listed (taskTests t) ≡ true
+task-listed : (t : Task) → every known (taskTests t) ≡ true
 task-listed (search diag radius lambda) = refl
 task-listed (start x bound) = refl
 
@@ -70,7 +61,7 @@ module _ (s : List ℕ) (step : List Float) where
   abbrev pub given : ℕ
   given = replyNumber (call .reply)
 
-  tests-listed : listed tests ≡ true
+  tests-listed : every known tests ≡ true
   unfolding sheetTests
   tests-listed = task-listed (jobOf (headOf s) (numbersOf (headOf s) s) .task)
 
@@ -93,7 +84,7 @@ module _ (s : List ℕ) (step : List Float) where
       by false e =
           let k = nonzero (firstOf tests) (eqb-false (firstOf tests) 0 e) in
           let t = refused-iff tests (firstOf tests) k .0 refl in
-          r (firstOf tests) (known-named (firstOf tests) (first-known tests tests-listed)) (k, t) (sym (sheet-is-refused s step (firstOf tests) k t))
+          r (firstOf tests) (known-named (firstOf tests) (first-of known refl tests tests-listed)) (k, t) (sym (sheet-is-refused s step (firstOf tests) k t))
 
   -- LAW: 1 to 7, in the order of the tests
   pub refused-early : (k : ℕ) → 0 < k → k < 8 → (given ≡ k) ↔ RefusedBy tests k

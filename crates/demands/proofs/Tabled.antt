@@ -2,7 +2,7 @@
 -- and none that is tested before it; refused 8 exactly when all tests are passed and the call's own condition holds; and answered
 -- otherwise. Assumes nothing.
 use mathlib.Core.Path.{_≡_, refl, sym, ap, _∙_, subst}
-use mathlib.Core.Bool.{Bool, true, false, cond, not, _&&_, _||_, and-eq-true-iff}
+use mathlib.Core.Bool.{Bool, true, false, cond, not, _&&_, _||_}
 use mathlib.Core.List.{List, [], _∷_}
 use mathlib.Core.Logic.{_↔_}
 use Prim.Native.Nat.{ℕ, _<_}
@@ -10,13 +10,13 @@ use native.Mathlib.Omega.{arith}
 use lib.Dec.{eqb, ltb}
 use lib.ListN.{length, take}
 use lib.Ieee.{Float, isNan}
-use borrow.Author.Tests.{ltb-true, eqb-true, eqb-false}
+use borrow.Author.Tests.{eqb-true, eqb-false}
 use Rattle.leaves.specs.Reply.{Reply, answered, refused}
 use Rattle.leaves.specs.Number.{plusZero, maxOf, isFinite}
 use Rattle.leaves.specs.Norm.{norm}
 use Rattle.leaves.specs.Product.{productAll}
 use Rattle.factor.specs.State.{isEmpty, storeNeed}
-use Rattle.leaves.specs.Tests.{outside, Test, firstOf, allFinite}
+use Rattle.leaves.specs.Tests.{outside, Test, allFinite}
 use Rattle.factor.specs.Room.{Room, load}
 use Rattle.factor.specs.Solve.{gather}
 use Rattle.factor.specs.Held.{heldSolved, heldProduct}
@@ -34,6 +34,7 @@ use Rattle.demands.proofs.Leavings.{tests-numbered, passed-is, refused-
 use Rattle.leaves.specs.Refusing.{NoneHold, RefusedBy}
 use Rattle.demands.specs.Refusals.{storeRefusal, refusedAs, shortestOf, furtherOf, storeTests}
 use Rattle.demands.specs.Eight.{zeroX, dampedL, topOf, anyNan, measured, storeBreaks}
+use Rattle.demands.proofs.TestNumbers.{small, first-small}
 
 -- ---- 8, call by call
 
@@ -93,16 +94,6 @@ effect-number determined st order r = refl
 effect-number non-singular st order r = refl
 
 -- ---- the tests' numbers are below 8
-abbrev small : List Test → Bool
-small [] = true
-small (t ∷ ts) = ltb (t .1) 8 && small ts
-
-first-small : (ts : List Test) → small ts ≡ true → firstOf ts < 8
-unfolding firstOf
-first-small [] h = omega arith
-first-small ((true, k) ∷ ts) h = ltb-true k 8 (and-eq-true-iff (ltb k 8) (small ts) .0 h .0)
-first-small ((false, k) ∷ ts) h = first-small ts (and-eq-true-iff (ltb k 8) (small ts) .0 h .1)
-
 further-small : (c : StoreCall) (st : State) (order : List ℕ) → small (furtherOf c st order) ≡ true
 unfolding furtherOf
 further-small (zero-solve out) st order = refl
