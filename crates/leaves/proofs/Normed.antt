@@ -216,7 +216,7 @@ norm-products ds ps e h i k = go (isFinite (getD ps i nan)) refl
     go false q = absurd (true≢false (sym h ∙ norm-nonfinite (productAll ps ds) i (rw (product-length ps ds e) k) (product-nonfinite ps ds i q)))
 
 -- ---- not below zero: NaN, +infinity, a zero of either sign, or finite with a clear sign
-abs-side : (x : Float) → Side (absOf x)
+pub abs-side : (x : Float) → Side (absOf x)
 unfolding absOf
 abs-side nan = no-number
 abs-side (inf s) = endless
@@ -226,14 +226,14 @@ units-side : (q k : ℕ) → Side (units binary64 false q k)
 unfolding units
 units-side q k = arms Side (ltb (q * 2 ^ k) (2 ^ 2098)) (odd-side 54 q k 1074) endless
 
-round-side : (a b : ℕ) → Side (round binary64 false a b)
+pub round-side : (a b : ℕ) → Side (round binary64 false a b)
 round-side a b = rw (round-is binary64 false a b) (units-side _ _)
 
 -- a product with a zero whose sign is set is a zero again
 zero-side : (a : ℕ) (d e : ℤ) → a ≡ 0 → Side (round binary64 true a (down d * down e))
 zero-side a d e q = rw (round-zero true a (down d * down e) (mul-pos (down-pos d) (down-pos e)) q) minus-zero
 
-mul-side : {x y : Float} → Side x → Side y → Side (mul binary64 x y)
+pub mul-side : {x y : Float} → Side x → Side y → Side (mul binary64 x y)
 unfolding mul
 mul-side no-number q = no-number
 mul-side endless no-number = no-number

@@ -1,13 +1,16 @@
--- Document 01's commissioning examples I and J, each computed by the definitions that the contracts cite. Assumes nothing.
-use Prim.Native.Nat.{ℕ}
+-- Document 01's commissioning examples I and J, and what determined must tell apart (02, #104), each computed by the definitions that the
+-- contracts cite. Assumes nothing.
+use Prim.Native.Nat.{ℕ, _+_, _^_}
 use mathlib.Core.Path.{_≡_, refl}
 use mathlib.Core.Bool.{false}
-use mathlib.Core.List.{List, [], _∷_}
+use mathlib.Core.List.{List, [], _∷_, _++_}
 use lib.ListN.{replicate}
-use lib.Ieee.{Float, nan, binary64, round}
-use Rattle.leaves.specs.Reply.{answered}
+use lib.Ieee.{Float, nan, inf, binary64, round}
+use Rattle.leaves.specs.Reply.{Reply, answered}
 use Rattle.leaves.specs.Number.{plusZero}
 use Rattle.factor.specs.Factoring.{Factored, factorCall}
+use Rattle.factor.specs.Outcome.{Told}
+use Rattle.factor.specs.declared.state.Held.the-variants.{Nothing}
 use Rattle.measures.specs.Measures.{gradientCall, determinedCall}
 use Rattle.measures.specs.inner.Opened.{opened}
 
@@ -33,3 +36,39 @@ pub examples :
     × (gradientCall (J .state) (J .order) (w 1) (J .store) .reply ≡ answered (w 0))
 unfolding opened
 examples = (refl, refl, refl)
+
+-- ---- 02, #104: a diagonal of two, factored with m rows, and n columns of which the later ones are zero
+abbrev fraction : ℕ → ℕ → Float
+fraction a k = round binary64 false a (2 ^ k)
+
+abbrev count : Factored → Reply ℕ
+count f = determinedCall (f .state) (f .store) .reply
+
+abbrev square : Float → Factored
+square d = factorCall 2 2 (w 1 ∷ w 0 ∷ w 0 ∷ d ∷ []) (w 1 ∷ w 1 ∷ []) (junk 12) (7 ∷ 7 ∷ []) (junk 6)
+
+abbrev wide : Factored
+wide = factorCall 2 4 (w 1 ∷ w 0 ∷ w 0 ∷ fraction 3 52 ∷ replicate 4 plusZero) (w 1 ∷ w 1 ∷ []) (junk 32) (7 ∷ 7 ∷ 7 ∷ 7 ∷ []) (junk 10)
+
+-- so small that ((max(m, n) · 2^−52) · |R_00|) and max(m, n) · (2^−52 · |R_00|) are two numbers, with the second diagonal between
+abbrev low : Factored
+low =
+    factorCall 5 2 (fraction 0x1f6d0c8e71fdbe 1042 ∷ replicate 5 plusZero ++ (fraction 0x9d213ec84 1074 ∷ replicate 3 plusZero)) (replicate 5 (w 1)) (junk 12) (7 ∷ 7 ∷ []) (junk 15)
+
+-- a store that no factoring left, with this diagonal
+abbrev claimed : Float → Float → Float → Told ℕ
+claimed a b c =
+    determinedCall (record { m = 3; n = 3; held = Nothing }) (a ∷ w 0 ∷ w 0 ∷ w 0 ∷ b ∷ w 0 ∷ w 0 ∷ w 0 ∷ c ∷ replicate 12 plusZero)
+
+pub determined-examples :
+    (count (square (fraction 1 51)) ≡ answered 1)
+    × (count (square (fraction (2 ^ 52 + 1) 103)) ≡ answered 2)
+    × (count wide ≡ answered 1)
+    × (count low ≡ answered 1)
+    × (claimed (w 1) (w 0) (w 1) .reply ≡ answered 1)
+    × (claimed (fraction 1 60) (w 1) (w 1) .reply ≡ answered 3)
+    × (claimed (w 1) nan (w 1) .reply ≡ answered 1)
+    × (claimed nan (w 1) (w 1) .reply ≡ answered 0)
+    × (claimed (inf false) (w 1) (w 1) .reply ≡ answered 0)
+unfolding opened
+determined-examples = (refl, refl, refl, refl, refl, refl, refl, refl, refl)

@@ -5,9 +5,9 @@ use mathlib.Core.List.{List, [], _∷_, _++_}
 use Prim.Native.Nat.{ℕ, _*_, _<_, _≤_}
 use native.Mathlib.Nat.{le-refl}
 use native.Mathlib.Omega.{arith}
-use lib.ListN.{length, take, drop, length-append}
+use lib.ListN.{length, getD, take, drop, length-append}
 use lib.Seq.{take-at}
-use lib.Ieee.{Float}
+use lib.Ieee.{Float, nan}
 use borrow.Author.Tests.{ne-eqb}
 use Rattle.leaves.specs.Number.{plusZero, isFinite}
 use Rattle.leaves.specs.Reply.{Reply, answered, refused}
@@ -16,7 +16,7 @@ use Rattle.measures.specs.Gradient.{measures, largest, gradient, jxNorm}
 use Rattle.factor.specs.Room.{load, lay, rested}
 use Rattle.leaves.specs.Square.{uppersOf, diagonal}
 use Rattle.factor.specs.Solve.{gather, nonSingular}
-use Rattle.measures.specs.Determined.{leading, determinedOf}
+use Rattle.measures.specs.Determined.{limitOf, leading, determinedOf}
 use Rattle.leaves.specs.Tests.{Test, firstOf}
 use Rattle.factor.specs.Tests.{roomTests, orderTest, finiteTest, finiteNumber, notAbove, solveTests}
 use Rattle.factor.specs.Outcome.{told}
@@ -29,6 +29,7 @@ use Rattle.factor.proofs.PivotOrders.{full-rank-passed}
 use Rattle.factor.proofs.Passed.{Ordered, room-passed, passed-sized, solve-passed, order-alone}
 use Rattle.leaves.proofs.Refusals.{call-refused, call-worked, earlier-passed}
 use Rattle.leaves.proofs.Insides.{Inside}
+use Rattle.leaves.proofs.Squares.{diagonal-length}
 use Rattle.factor.specs.inner.Rooms.{Sized}
 
 -- ---- sizes, as the workings on a store ask them
@@ -115,6 +116,9 @@ module _ (st : State) (order : List ℕ) (x s : List Float) {c : ℕ} (e : c ≡
   jx-worked z h l = rw (h, l) (call-worked _ (λ k. told (refused k) st s) _ (sym e ∙ z))
 
 -- ---- determined: o is R's diagonal, lent as the first n of a room
+abbrev pub countedOf : ℕ → List Float → ℕ
+countedOf m ds = length (leading (limitOf m (length ds) (getD ds 0 nan)) (take m ds))
+
 module _ (n : ℕ) (room o : List Float) (h : length o ≡ n) where
   lent-again : take n (o ++ drop n room) ≡ o
   lent-again = take-at o (drop n room) n h
@@ -125,10 +129,10 @@ module _ (n : ℕ) (room o : List Float) (h : length o ≡ n) where
   pub again-long : length (take n (o ++ drop n room)) ≡ n
   again-long = ap length lent-again ∙ h
 
-  pub determined-law : (m : ℕ) (s : List Float) {k : ℕ} → o ≡ diagonal (load n s .upper) → k ≡ length (leading (take m (take n (o ++ drop n room))))
-      → k ≡ determinedOf m (load n s .upper)
+  pub determined-law : (m : ℕ) (s : List Float) {k : ℕ} → o ≡ diagonal (load n s .upper)
+      → k ≡ countedOf m (take n (o ++ drop n room)) → k ≡ determinedOf m (load n s .upper)
   unfolding determinedOf
-  determined-law m s e f = f ∙ ap (λ (ds : List Float). length (leading (take m ds))) (lent-again ∙ e)
+  determined-law m s e f = f ∙ ap (countedOf m) (lent-again ∙ e) ∙ rw (diagonal-length 0 (load n s .upper))
 
 -- ---- determined, and whether A has rank n, as calls
 module _ (st : State) (s : List Float) {c : ℕ} (e : c ≡ firstOf (roomTests st (length s) (st .n))) where

@@ -13,6 +13,8 @@ use factor::parts::qt_b;
 use factor::parts::rest;
 use factor::pivot_order::full_rank;
 use factor::state::State;
+use leaves::number::abs;
+use leaves::number::epsmch;
 use leaves::number::is_finite;
 use leaves::reply::Place;
 use leaves::reply::Value;
@@ -23,8 +25,9 @@ ghost use mathlib.Core.Path.{_≡_};
 ghost use mathlib.Core.List.{[], _∷_, _++_};
 ghost use Prim.Native.Nat.{ℕ, _<_, _≤_};
 ghost use lib.ListN.{length, getD, take};
+ghost use lib.Ieee.{nan};
 ghost use Rattle.leaves.specs.Reply.{placeOf, valueOf};
-ghost use Rattle.measures.specs.Determined.{leading};
+ghost use Rattle.measures.specs.Determined.{leading, limitOf};
 ghost use Rattle.measures.specs.Answers.{gradientOf};
 ghost use Rattle.factor.specs.Answers.{truthOf};
 ghost use Rattle.factor.specs.Outcome.{told};
@@ -180,14 +183,28 @@ pub fn a_x_norm(st: State, store: &mut [f64], order: &[usize], x: &[f64]) -> Val
     }
 }
 
-// The places before the first exact zero, of the first m at most: place m counts as zero where m < n.
-fn determined_of(diag: &[f64], m: usize) -> usize
-    ensures { λ r. ⌜ r ≡ length (leading (take m (now (diag .entry)))) ⌝ }
+// ((max(m, n) · 2^−52) · |R_00|), in that order, of m rows and n columns (02, #104).
+fn limit_of(m: usize, n: usize, r00: f64) -> f64
+    requires { ⌜ (m ≤ 128) × (n ≤ 16) ⌝ }
+    ensures { λ r. ⌜ r ≡ limitOf m n r00 ⌝ }
 {
+    if m < n {
+        return n as f64 * epsmch() * abs(r00);
+    }
+    m as f64 * epsmch() * abs(r00)
+}
+
+// The leading places above the limit, of the first m at most: place m fails where m < n. A NaN is above nothing.
+fn determined_of(diag: &[f64], m: usize) -> usize
+    requires { ⌜ (0 < length (now diag)) × (length (now diag) ≤ 16) × (m ≤ 128) ⌝ }
+    ensures { λ r. ⌜ r ≡ length (leading (limitOf m (length (now (diag .entry))) (getD (now (diag .entry)) 0 nan)) (take m (now (diag .entry)))) ⌝ }
+{
+    let limit = limit_of(m, diag.len(), diag[0]);
     let top = least(m, diag.len());
     let mut k = 0;
     while k < top {
-        if diag[k] == 0.0 {
+        let a = abs(diag[k]);
+        if !(limit < a) {
             return k;
         }
         k += 1;
@@ -195,7 +212,8 @@ fn determined_of(diag: &[f64], m: usize) -> usize
     k
 }
 
-// How many parameters are determined: the places before R's first exact zero diagonal.
+// How many parameters are determined: the leading places whose diagonal of R is above ((max(m, n) · 2^−52) · |R_00|) in absolute value. The
+// solves go by exact zeros still (`rank`), so that this is at most their rank.
 //
 // st: a state of the problem. store: R's diagonal is read; on exit work is +0. No other slice holds a number for each column, so the shortest
 // is none too short.

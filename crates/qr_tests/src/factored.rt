@@ -3,6 +3,8 @@
 use crate::near;
 use crate::near::default_epsilon;
 use crate::problem;
+use leaves::reply::Place;
+use measures::measures::determined;
 
 // test_pivoted_qr
 const SMALL_ORDER: [usize; 3] = [1, 2, 0];
@@ -113,6 +115,19 @@ pub(crate) fn test_pivoted_qr_big_rank1() -> bool {
     let d = near::all(store, 15, &RANK1_ABOVE_3, e);
     let f = near::all(store, 20, &RANK1_ABOVE_4, e);
     a & b & c & d & f
+}
+
+// 02, #104: for that matrix the report must say one. It is no test of qr.rs, which has no such count.
+pub(crate) fn determined_big_rank1() -> bool {
+    let p = problem::lls(10, 5, &RANK1, &NO_RESIDUALS);
+    let state = p.state;
+    let mut store = p.store;
+    let t = determined(state, &mut store);
+    let answer = t.answer;
+    match answer {
+        Place::At(k) => k == 1,
+        Place::Refused(_) => false,
+    }
 }
 
 // test_into_lls: from Python's lmmin and SciPy's MINPACK.

@@ -1,4 +1,5 @@
-// Runs the 14 tests of the Rust's src/qr.rs on what the calls of `factor` show, and prints a line for each.
+// Runs the 14 tests of the Rust's src/qr.rs on what the calls of `factor` show, and one of determined on a matrix of theirs, and prints a
+// line for each.
 //
 // The matrices, the expected values and the tolerances are those of qr.rs, which takes them from MINPACK, SciPy and Python's lmmin.
 // What qr.rs looks at and no call shows is left out, and each test says so: the reflection vectors below R's diagonal, and the
@@ -46,7 +47,12 @@ fn solving() -> u64 {
     let e = report::line(b"test_cholesky_upper", held::test_cholesky_upper());
     let f = report::line(b"test_column_max_norm", measured::test_column_max_norm());
     let g = report::line(b"test_a_x_norm", measured::test_a_x_norm());
-    report::sum(a, b, report::sum(c, d, report::sum(e, f, g)))
+    let h = report::line(b"determined_big_rank1", factored::determined_big_rank1());
+    report::sum(
+        a,
+        b,
+        report::sum(c, d, report::sum(e, f, report::sum(g, h, 0))),
+    )
 }
 
 fn main() {

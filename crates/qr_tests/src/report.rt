@@ -25,7 +25,7 @@ fn ones(k: u64) -> u8 {
 
 // There are fewer than twenty tests, so the ten's digit is 1 or is not there.
 pub(crate) fn total(failed: u64) {
-    io::write_all(1, b"14 tests, ");
+    io::write_all(1, b"15 tests, ");
     if failed >= 10 {
         io::write_all(1, b"1");
     }

@@ -46,6 +46,17 @@ const REFUSALS: [(&str, &[u8]); 11] = [
     ("is_non_singular", &[2, 3, 5]),
 ];
 
+/// What `determined` is told of the diagonal, and what it answers (02, #104).
+const DETERMINED: [&str; 7] = [
+    "below the rank",
+    "the rank and below n",
+    "limit subnormal",
+    "a place at the limit",
+    "m < n",
+    "NaN on the diagonal",
+    "infinity on the diagonal",
+];
+
 /// The sizes of answered factorings and searches that are counted by themselves.
 const SIZES: [(&str, fn(usize, usize) -> bool); 6] = [
     ("m < n", |m, n| m < n),
@@ -127,6 +138,7 @@ pub fn wanted_of_calls() -> Vec<String> {
         wanted.push(format!("held solve ok, {held}"));
         wanted.push(format!("held mul_qt_b ok, {held}"));
     }
+    wanted.extend(DETERMINED.map(|what| format!("determined ok, {what}")));
     wanted.extend(wanted_of_factorings());
     wanted.extend(sizes_of("search"));
     wanted.extend(CLASSES.iter().map(|class| class.to_string()));
@@ -254,6 +266,7 @@ impl Coverage {
             (Item::Scale { mode, .. }, Ok(_)) => self.scaling(*mode, &reply.answer),
             (Item::Factor { m, n, .. }, Ok(_)) => self.sizes(call, *m, *n),
             (Item::Search { .. }, Ok(_)) => self.sizes(call, before.m, before.n),
+            (Item::Determined, Ok(Answer::Count(count))) => self.determined(rooms, *count),
             _ => {}
         }
     }
@@ -261,6 +274,26 @@ impl Coverage {
     fn sizes(&mut self, call: &str, m: usize, n: usize) {
         for (size, _) in SIZES.iter().filter(|(_, holds)| holds(m, n)) {
             self.add(&format!("{call} ok, {size}"));
+        }
+    }
+
+    fn determined(&mut self, rooms: &Rooms, count: usize) {
+        let (m, n) = (rooms.state.m, rooms.state.n);
+        let diagonal: Vec<f64> = (0..n).map(|j| rooms.store[j * n + j]).collect();
+        let there = &diagonal[..m.min(n)];
+        let rank = there.iter().take_while(|d| **d != 0.0).count();
+        let limit = (m.max(n) as f64 * f64::EPSILON) * diagonal[0].abs();
+        let present = [
+            count < rank,
+            count == rank && rank < n,
+            limit.is_subnormal(),
+            limit > 0.0 && there.get(count).is_some_and(|d| d.abs() == limit),
+            m < n,
+            there.iter().any(|d| d.is_nan()),
+            there.iter().any(|d| d.is_infinite()),
+        ];
+        for (what, _) in DETERMINED.iter().zip(present).filter(|(_, holds)| *holds) {
+            self.add(&format!("determined ok, {what}"));
         }
     }
 

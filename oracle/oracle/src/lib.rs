@@ -12,6 +12,7 @@ pub mod make_leaves;
 pub mod make_roots;
 pub mod make_sheets;
 pub mod minpack;
+pub mod near;
 pub mod pool;
 pub mod problem;
 pub mod random;

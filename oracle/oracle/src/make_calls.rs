@@ -1,6 +1,7 @@
 //! Random call scripts: lent rooms, a factoring, then further calls, refused ones between.
 
 use crate::apart;
+use crate::near;
 use crate::pool::{Example, Pool};
 use crate::problem;
 use crate::random::Random;
@@ -242,6 +243,7 @@ fn claim(rng: &mut Random, scene: &Scene, items: &mut Vec<Item>) {
 
 pub fn sequence(rng: &mut Random, pool: &Pool) -> Vec<Item> {
     let mut items = Vec::new();
+    let mut aside = rng.aside();
     let drawn = example(rng, pool);
     let scene = lend(rng, drawn, &mut items);
     match rng.below(100) {
@@ -257,6 +259,9 @@ pub fn sequence(rng: &mut Random, pool: &Pool) -> Vec<Item> {
             }
             _ => items.push(call(rng, &scene)),
         }
+    }
+    if aside.percent(4) {
+        items.append(&mut near::items(&mut aside));
     }
     items.push(Item::End);
     items

@@ -19,6 +19,11 @@ impl Random {
         z ^ (z >> 31)
     }
 
+    /// A generator of its own, which takes nothing from this one.
+    pub fn aside(&self) -> Random {
+        Random::new(!self.counter)
+    }
+
     pub fn below(&mut self, k: usize) -> usize {
         (self.bits() % k as u64) as usize
     }

@@ -151,6 +151,37 @@ fn held() -> Vec<Vec<Item>> {
     ]
 }
 
+/// 02, #104: what `determined` must tell apart. Factored: a limit met exactly and just exceeded; more columns than rows, so
+/// that max(m, n) is n; a limit whose products come out otherwise in the other order; `qr.rs`'s matrix of rank one. Claimed:
+/// a large diagonal after a zero one, and one that is larger than the first.
+fn near() -> Vec<Vec<Item>> {
+    let (r, p) = (0x021F_6D0C_8E71_FDBE, 0x0000_0009_D213_EC84);
+    let edge = 2.0 * f64::EPSILON;
+    let on_diagonal = |m: usize, n: usize, diagonal: [f64; 2]| {
+        let mut jacobian = vec![0.0; m * n];
+        (jacobian[0], jacobian[m + 1]) = (diagonal[0], diagonal[1]);
+        case(m, n, &jacobian, &vec![1.0; m], &[Item::Determined])
+    };
+    let products = (0..50).map(|k| ((k % 10 + 1) * (k / 10 + 1)) as f64);
+    let rank_one: Vec<f64> = products.collect();
+    let claimed = |diagonal: &[f64]| {
+        let n = diagonal.len();
+        let cells = diagonal.iter().enumerate();
+        let cells = cells.map(|(j, d)| Item::Store(j * n + j, *d)).collect();
+        let calls = [cells, vec![Item::Determined]].concat();
+        case(n, n, &vec![1.0; n * n], &vec![1.0; n], &calls)
+    };
+    vec![
+        on_diagonal(2, 2, [1.0, edge]),
+        on_diagonal(2, 2, [1.0, edge.next_up()]),
+        on_diagonal(2, 4, [1.0, 3.0 * f64::EPSILON]),
+        on_diagonal(5, 2, [f64::from_bits(r), f64::from_bits(p)]),
+        case(10, 5, &rank_one, &[1.0; 10], &[Item::Determined]),
+        claimed(&[1.0, 0.0, 1.0]),
+        claimed(&[1e-20, 1.0]),
+    ]
+}
+
 fn is_long(items: &[Item]) -> bool {
     items
         .iter()
@@ -200,6 +231,6 @@ fn sequences() -> Vec<Vec<Item>> {
 pub fn cases() -> Vec<Vec<Item>> {
     let mut factorings = thinned(scripts(Kind::Factorings, DRAWN, 1), |_| true);
     factorings.truncate(FACTORINGS);
-    let fixed = [examples(), limits(), witnesses(), going_on(), held()].concat();
+    let fixed = [examples(), limits(), witnesses(), going_on(), held(), near()].concat();
     [fixed, factorings, sequences()].concat()
 }

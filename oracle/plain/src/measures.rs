@@ -170,10 +170,14 @@ pub fn update_diag(
     (scale(mode, room.norms, diag, x, step_bound), state)
 }
 
-/// "The number of parameters at places before R's first exact zero diagonal"; there is no diagonal from row m on.
-fn places_before_zero(room: &Room, m: usize) -> usize {
+/// "The number of leading places with |R_jj| greater than ((max(m,n) · 2^−52) · |R_00|), computed in that order and
+/// rounded at each step; the first failing place ends the count" (02, #104); there is no diagonal from row m on.
+fn leading_places(room: &Room, m: usize) -> usize {
+    let largest = if m < room.n { room.n } else { m };
+    let unit = largest as f64 * 2f64.powi(-52);
+    let limit = unit * abs(room.cell(0, 0));
     let mut count = 0;
-    while count < room.n && count < m && room.cell(count, count) != 0.0 {
+    while count < room.n && count < m && abs(room.cell(count, count)) > limit {
         count += 1;
     }
     count
@@ -186,7 +190,7 @@ pub fn determined(state: State, store: &mut [f64]) -> (Result<usize, u8>, State)
     };
     let room = Room::of(n, store);
     room.work.fill(0.0);
-    (Ok(places_before_zero(&room, state.m)), state)
+    (Ok(leading_places(&room, state.m)), state)
 }
 
 pub fn full_rank(room: &Room, m: usize) -> bool {

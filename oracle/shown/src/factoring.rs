@@ -59,13 +59,16 @@ pub fn check_store(state: State, store: &[f64]) -> Result<Room, u8> {
     Ok(room)
 }
 
-/// The places before R's first exact zero diagonal. Where m < n, R's row m is zero, whatever the store has there.
+/// The leading places whose diagonal of R is above ((max(m, n) · 2^−52) · |R_00|) (02, #104). Where m < n, R's row m is
+/// zero, whatever the store has there. The Rust's rank, which goes by exact zeros, has no part in it.
 pub fn determined(state: State, store: &mut [f64]) -> Result<usize, u8> {
     let room = check_store(state, store)?;
     room.clear_work(store);
     let places = room.m.min(room.n);
-    let zero = (0..places).find(|j| store[j * room.n + j] == 0.0);
-    Ok(zero.unwrap_or(places))
+    let diagonal = |j: usize| store[j * room.n + j].abs();
+    let limit = room.m.max(room.n) as f64 * f64::EPSILON * diagonal(0);
+    let failing = (0..places).find(|j| !(diagonal(*j) > limit));
+    Ok(failing.unwrap_or(places))
 }
 
 pub fn is_non_singular(state: State, store: &mut [f64]) -> Result<bool, u8> {

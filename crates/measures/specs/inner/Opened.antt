@@ -2,10 +2,10 @@
 use Rattle.factor.specs.inner.Opened.{opened as factor}
 use Rattle.measures.specs.Gradient.{measures, largest, gradient, combined, jxNorm}
 use Rattle.measures.specs.Scaling.{firstScaling, laterScaling, radiusOf}
-use Rattle.measures.specs.Determined.{leading, determinedOf}
+use Rattle.measures.specs.Determined.{limitOf, leading, determinedOf}
 use Rattle.measures.specs.Measures.{gradientCall, jxCall, determinedCall, nonSingularCall}
 use Rattle.measures.specs.Rescale.{scalingTests, rescaled, scalingCall}
 
 unfoldable pub opened : Unit {0}
-unfolding factor measures largest gradient combined jxNorm firstScaling laterScaling radiusOf leading determinedOf gradientCall jxCall determinedCall nonSingularCall scalingTests rescaled scalingCall
+unfolding factor measures largest gradient combined jxNorm firstScaling laterScaling radiusOf limitOf leading determinedOf gradientCall jxCall determinedCall nonSingularCall scalingTests rescaled scalingCall
 opened = tt

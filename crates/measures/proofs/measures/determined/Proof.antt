@@ -1,5 +1,6 @@
 -- `measures::measures::determined` meets its contract. Assumes nothing.
 use mathlib.Core.Path.{sym, _∙_}
+use native.Mathlib.Omega.{arith}
 use borrow.Author.Needs.{needs}
 use lib.ListN.{take}
 use Rattle.leaves.proofs.Overs.{lent-fits, lent-long}
@@ -57,7 +58,14 @@ slice-aggregate-determined-of c =
     sym (again-long (g .st .n) (c .before .before .before .before .before .room16 .result) (c .before .before .diagonal .last .1 .1 .0) o)
 
 determined-of-requires : tie.Need-determined-of-requires
-determined-of-requires c κs = search needs
+determined-of-requires c κs =
+    let g = c .before .before .before .before .before .before .before .before .before .args in
+    let r = c .before .before .before .before .before .before .before .room .ensures in
+    let z = c .before .before .before .before .before .before .if1 .left in
+    let i = rank-inside (g .st) (g .store .now) r z in
+    let o = c .before .before .diagonal .kept .1 .1 .0 ∙ lent-long (g .st .n) _ (c .before .before .before .before .before .room16 .ensures) (i .cols-few) in
+    let l = again-long (g .st .n) (c .before .before .before .before .before .room16 .result) (c .before .before .diagonal .last .1 .1 .0) o in
+    (omega (arith, l, i .cols-some), omega (arith, l, i .cols-few), i .rows-few)
 
 rest-requires : tie.Need-rest-requires
 rest-requires c κs = search needs
