@@ -8,7 +8,6 @@
 #include <string.h>
 
 double fodder_sqrt(double);
-double fodder_sqrt_quarter(double);
 
 #define FRACTION ((UINT64_C(1) << 52) - 1)
 #define INFINITE (UINT64_C(2047) << 52)
@@ -45,11 +44,8 @@ static uint64_t subnormal(void) { return below(UINT64_C(1) << (1 + below(52))); 
 
 static uint64_t near_power(void) { return ((1 + below(2046)) << 52) + below(17) - 8; }
 
-/* Where `sqrt_quarter` has a guess of its own; elsewhere it is `sqrt`. */
-static uint64_t quarter(void) { return (UINT64_C(1021) << 52) + (any() & FRACTION); }
-
-/* The square of a whole number below 2^26.5 is held exactly; by 4^k it stays a square. At one unit below, the guess at the first
- * 27 digits is one too large, so this is also what drives the digit by digit fallback. */
+/* The square of a whole number below 2^26.5 is held exactly; by 4^k it stays a square. There the last digit of the root that is not
+ * zero takes all that is left over; a unit below, it must not be taken. */
 static uint64_t near_square(void) {
     uint64_t q = 1 + below(94906264);
     uint64_t square = pattern((double)(q * q));
@@ -57,6 +53,12 @@ static uint64_t near_square(void) {
     uint64_t parity = 2 - field % 2;
     field = parity + 2 * below(1023);
     return (field << 52) + (square & FRACTION) + below(5) - 2;
+}
+
+/* 1074 is even, so that a subnormal is a square where its pattern is. */
+static uint64_t near_low_square(void) {
+    uint64_t q = 1 + below(67108863);
+    return q * q + below(3) - 1;
 }
 
 /* The hardest to round: q + 1/2 all but a root. v * 2^52 = q^2 + q - c, c small and even, is solved for q modulo 2^52 from either
@@ -88,14 +90,36 @@ static const uint64_t special[] = {
     UINT64_C(0xfff0000000000000), UINT64_C(0x7ff0000000000001), UINT64_C(0x7ff8000000000000), UINT64_C(0x7fffffffffffffff),
     UINT64_C(0xfff0000000000001), UINT64_C(0xfff8000000000000), UINT64_C(0xffffffffffffffff)};
 
+#define SPECIALS (sizeof special / sizeof special[0])
+
+/* Every field of a normal number, so both parities, with the first two and the last two fractions: the ends of v's range. */
+#define ENDS (UINT64_C(2046) * 4)
+
+static uint64_t end(uint64_t i) {
+    static const uint64_t fraction[] = {0, 1, FRACTION - 1, FRACTION};
+    return ((1 + i / 4) << 52) + fraction[i % 4];
+}
+
+/* What is tried before anything by chance: the special values, every subnormal power of two, the ends. */
+#define POWERS 52
+#define FIXED (SPECIALS + POWERS + ENDS)
+
+static uint64_t fixed(uint64_t i) {
+    if (i < SPECIALS)
+        return special[i];
+    if (i < SPECIALS + POWERS)
+        return UINT64_C(1) << (i - SPECIALS);
+    return end(i - SPECIALS - POWERS);
+}
+
 static const struct {
     const char *name;
     uint64_t (*next)(void);
-} family[] = {{"any pattern", anything},          {"subnormal", subnormal},     {"near a power of two", near_power},
-              {"near a square", near_square},     {"near q + 1/2", near_half},  {"0.25 up to 0.5", quarter}};
+} family[] = {{"any pattern", anything},           {"subnormal", subnormal},
+              {"near a power of two", near_power}, {"near a square", near_square},
+              {"near q + 1/2", near_half},         {"near a subnormal square", near_low_square}};
 
 #define FAMILIES (sizeof family / sizeof family[0])
-#define SPECIALS (sizeof special / sizeof special[0])
 
 /* 01: all NaNs count as one value. */
 static int same(uint64_t a, uint64_t b) { return a == b || (is_nan(a) && is_nan(b)); }
@@ -103,11 +127,11 @@ static int same(uint64_t a, uint64_t b) { return a == b || (is_nan(a) && is_nan(
 static int differs(uint64_t bits, uint64_t shown) {
     double x = value(bits);
     uint64_t want = pattern(sqrt(x));
-    uint64_t plain = pattern(fodder_sqrt(x)), quick = pattern(fodder_sqrt_quarter(x));
-    if (same(plain, want) && same(quick, want))
+    uint64_t ours = pattern(fodder_sqrt(x));
+    if (same(ours, want))
         return 0;
     if (shown < 10)
-        printf("%016" PRIX64 ": processor %016" PRIX64 ", sqrt %016" PRIX64 ", sqrt_quarter %016" PRIX64 "\n", bits, want, plain, quick);
+        printf("%016" PRIX64 ": processor %016" PRIX64 ", sqrt %016" PRIX64 "\n", bits, want, ours);
     return 1;
 }
 
@@ -115,8 +139,8 @@ static int compare(uint64_t count, uint64_t seed) {
     uint64_t wrong = 0, done[FAMILIES] = {0};
     state = seed;
     for (uint64_t i = 0; i < count; i++) {
-        if (i < SPECIALS) {
-            wrong += differs(special[i], wrong);
+        if (i < FIXED) {
+            wrong += differs(fixed(i), wrong);
         } else {
             wrong += differs(family[i % FAMILIES].next(), wrong);
             done[i % FAMILIES]++;
@@ -124,7 +148,7 @@ static int compare(uint64_t count, uint64_t seed) {
     }
     for (size_t f = 0; f < FAMILIES; f++)
         printf("%s: %" PRIu64 "\n", family[f].name, done[f]);
-    printf("special values: %zu\n", count < SPECIALS ? (size_t)count : SPECIALS);
+    printf("special values, subnormal powers of two, ends of the range: %" PRIu64 "\n", count < FIXED ? count : (uint64_t)FIXED);
     printf("%" PRIu64 " compared, %" PRIu64 " differ\n", count, wrong);
     return wrong != 0;
 }
@@ -140,8 +164,6 @@ static int call(const char *name, uint64_t bits, uint64_t times) {
     volatile double x = value(bits), kept;
     if (strcmp(name, "sqrt") == 0)
         chosen = fodder_sqrt;
-    else if (strcmp(name, "sqrt_quarter") == 0)
-        chosen = fodder_sqrt_quarter;
     for (uint64_t i = 0; i < times; i++)
         kept = chosen(x);
     (void)kept;
@@ -153,6 +175,6 @@ int main(int argc, char **argv) {
         return compare(strtoull(argv[2], NULL, 10), strtoull(argv[3], NULL, 10));
     if (argc == 5 && strcmp(argv[1], "call") == 0)
         return call(argv[2], strtoull(argv[3], NULL, 16), strtoull(argv[4], NULL, 10));
-    fprintf(stderr, "driver compare COUNT SEED | driver call sqrt|sqrt_quarter|nothing PATTERN TIMES\n");
+    fprintf(stderr, "driver compare COUNT SEED | driver call sqrt|nothing PATTERN TIMES\n");
     return 2;
 }

@@ -3,7 +3,7 @@
 // mirror is the Rust's; rotations from R's rows would need none. A row and the new row are lent from place k on, as is quickest.
 use leaves::number::abs;
 use leaves::number::abs_below;
-use leaves::root::sqrt_quarter;
+use leaves::root::sqrt;
 use leaves::sizes::room16;
 ghost use mathlib.Core.Path.{_≡_};
 ghost use Prim.Native.Nat.{_+_, _*_, _-_, _<_, _≤_};
@@ -27,7 +27,7 @@ pub struct Pair {
 fn lesser_of(t: f64) -> f64
     ensures { λ r. ⌜ r ≡ lesser t ⌝ }
 {
-    0.5 / sqrt_quarter(0.25 + 0.25 * (t * t))
+    0.5 / sqrt(0.25 + 0.25 * (t * t))
 }
 
 // The quotient is chosen first: one root for both ways.

@@ -8,7 +8,6 @@ use lines::put;
 // What a leaf answered. What `Written` wrote stands beside it.
 pub(crate) enum Reply {
     Number(f64),
-    Numbers(f64, f64),
     Bit(bool),
     Place(usize),
     Written,
@@ -46,10 +45,6 @@ pub(crate) fn of_done(r: Done) -> Reply {
 fn told(r: Reply, v: &[f64], out: &mut [u8], at: usize) -> usize {
     match r {
         Reply::Number(x) => put::double(x, out, at),
-        Reply::Numbers(x, y) => {
-            let n = put::double(x, out, at);
-            put::double(y, out, n)
-        }
         Reply::Bit(b) => put::number(b as usize, out, at),
         Reply::Place(i) => put::number(i, out, at),
         Reply::Written => put::row(v, out, at),

@@ -7,18 +7,7 @@ use crate::vectors::unread;
 use leaves::number;
 use lines::scan::byte;
 use lines::scan::word;
-use text::double::bits_of;
 use text::double::of_bits;
-
-// Both square roots; the second shows only where it is another.
-fn roots(x: f64) -> Reply {
-    let a = leaves::root::sqrt(x);
-    let b = leaves::root::sqrt_quarter(x);
-    if bits_of(a) == bits_of(b) {
-        return Reply::Number(a);
-    }
-    Reply::Numbers(a, b)
-}
 
 fn of_one(op: u8, x: f64) -> Reply {
     if op == b'a' {
@@ -33,7 +22,7 @@ fn of_one(op: u8, x: f64) -> Reply {
     if op == b'q' {
         return Reply::Number(number::square(x));
     }
-    roots(x)
+    Reply::Number(leaves::root::sqrt(x))
 }
 
 fn one(op: u8, s: &[u8]) -> Answer {

@@ -1,14 +1,12 @@
 -- Laws of the square root, in the order in which they build on each other.
-pub mod Digits
 pub mod Raising
 pub mod Whole
+pub mod Digits
 pub mod Scaled
 pub mod Floats
 pub mod Patterns
 pub mod Bounds
 pub mod Same
 pub mod Meets
-pub mod Guess
 pub mod Signs
-pub mod Quarter
 pub mod Unique

@@ -1,4 +1,4 @@
--- No second answer meets the contract of either function. `Post` is what the `ensures` says, as read from the source.
+-- No second answer meets the contract of `fodder_sqrt`. `Post` is what the `ensures` says, as read from the source.
 use mathlib.Core.Path.{_≡_, sym, _∙_}
 use lib.Ieee.{Float}
 use contract.Lifetimes.{Lfts}
@@ -8,14 +8,7 @@ use denote.Triple.Clauses.{AtExit}
 use Rattle.root_c.proofs.fodder_sqrt as sqrt-code
 use Rattle.root_c.proofs.fodder_sqrt.Reads as sqrt
 use Rattle.root_c.proofs.fodder_sqrt.Kinds as sqrt-kinds
-use Rattle.root_c.proofs.fodder_sqrt_quarter as quarter-code
-use Rattle.root_c.proofs.fodder_sqrt_quarter.Reads as quarter
-use Rattle.root_c.proofs.fodder_sqrt_quarter.Kinds as quarter-kinds
 
 pub fodder-sqrt-one-outcome : (κs : Lfts 0) (a : ArgsD sqrt-code.signature κs) (r₁ r₂ : Float) (s₁ s₂ : AtExit (endedOf 0 sqrt-kinds.ps sqrt-kinds.r) κs)
     → sqrt.Post κs a r₁ s₁ → sqrt.Post κs a r₂ s₂ → r₁ ≡ r₂
 fodder-sqrt-one-outcome κs a r₁ r₂ s₁ s₂ p₁ p₂ = p₁ ∙ sym p₂
-
-pub fodder-sqrt-quarter-one-outcome : (κs : Lfts 0) (a : ArgsD quarter-code.signature κs) (r₁ r₂ : Float) (s₁ s₂ : AtExit (endedOf 0 quarter-kinds.ps quarter-kinds.r) κs)
-    → quarter.Post κs a r₁ s₁ → quarter.Post κs a r₂ s₂ → r₁ ≡ r₂
-fodder-sqrt-quarter-one-outcome κs a r₁ r₂ s₁ s₂ p₁ p₂ = p₁ ∙ sym p₂

@@ -10,11 +10,3 @@ pub extern "C" fn fodder_sqrt(x: f64) -> f64
 {
     leaves::root::sqrt(x)
 }
-
-// C: double fodder_sqrt_quarter(double)
-#[no_mangle]
-pub extern "C" fn fodder_sqrt_quarter(x: f64) -> f64
-    ensures { λ r. ⌜ r ≡ rootS x ⌝ }
-{
-    leaves::root::sqrt_quarter(x)
-}

@@ -1,12 +1,12 @@
 -- What the tests of `sqrt` say of x, each a case of the rule: NaN, a zero, below zero, and what is left. Assumes nothing.
 use mathlib.Core.Path.{_≡_, refl, sym, ap, _∙_, subst}
 use mathlib.Core.Bool.{Bool, true, false, not, _&&_, _||_, Bool·beq, true≢false, false≢true}
-use Prim.Native.Nat.{ℕ, zero, suc, _+_, _*_, _<_}
+use Prim.Native.Nat.{ℕ, zero, suc, _+_, _*_, _^_, _<_}
 use native.Mathlib.Nat.{zero-mul, zero-lt-suc, mul-pos}
 use native.Mathlib.Omega.{arith}
 use lib.IntN.{ℤ, pos}
 use lib.Dec.{T, eqb, lt→ltb, ltb→lt, eqb→eq}
-use lib.Ieee.{Float, nan, inf, fin, binary64, up, down, level, ne, eq, lt, div, isNan, ofBits}
+use lib.Ieee.{Float, nan, inf, fin, binary64, up, down, level, ne, eq, lt, sub, isNan, ofBits}
 use lib.Ieee.Fits.{up-pos}
 use lib.Ieee.Compare.{differs-from-itself}
 use lib.Ieee.Bits.{is-true}
@@ -89,12 +89,16 @@ negative-below m e = is-true _ (lt→ltb 0 (suc m * up e * 1 + 0 * down e) (more
     more : 0 < suc m * up e * 1 → 0 < suc m * up e * 1 + 0 * down e
     more q = omega arith
 
-div-is : div binary64 nought nought ≡ nan
-unfolding div ofBits
-div-is = refl
+-- +infinity by its bits, as the code has it
+abbrev top : Float
+top = ofBits binary64 (2047 * 2 ^ 52)
 
-pub below-root : (x : Float) → lt x nought ≡ true → div binary64 nought nought ≡ rootS x
-below-root x t = div-is ∙ below-zero x (ap (λ (y : Float). lt x y) (sym nought-is) ∙ t)
+none-is : sub binary64 top top ≡ nan
+unfolding sub ofBits
+none-is = refl
+
+pub below-root : (x : Float) → lt x nought ≡ true → sub binary64 top top ≡ rootS x
+below-root x t = none-is ∙ below-zero x (ap (λ (y : Float). lt x y) (sym nought-is) ∙ t)
 
 -- ---- what is left: +infinity, and the finite values above zero
 

@@ -104,6 +104,18 @@ module _ (n t z : ℕ) (r : Normed n t z) where
   unfolding scaled
   scaled-odd e = ap (λ (x : ℕ). n * 2 ^ 1074 / 4 ^ x) half-is ∙ whole (t * 2) ((z + 969) / 2) 53 (omega arith) (omega arith)
 
+  -- the same by the code's shifts: `x << k` is x * 2 ^ k % 2 ^ 64, and no number here reaches 2 ^ 64
+  pub shifted-even : (z + 969) / 2 * 2 % 2 ^ 64 ≡ z + 969 → scaled n ≡ t * 2 ^ 52
+  shifted-even e = scaled-even (omega (arith, r .most))
+
+  pub shifted-odd : ((z + 969) / 2 * 2 % 2 ^ 64 ≡ z + 969 → ⊥) → scaled n ≡ t * 2 % 2 ^ 64 * 2 ^ 52
+  shifted-odd e =
+      let d : t * 2 % 2 ^ 64 ≡ t * 2 = omega (arith, r .high) in
+      rw d (scaled-odd (λ (p : (z + 969) % 2 ≡ 0). e (again p)))
+    where
+      again : (z + 969) % 2 ≡ 0 → (z + 969) / 2 * 2 % 2 ^ 64 ≡ z + 969
+      again p = omega (arith, r .most)
+
   -- nothing is cut off
   pub scaled-whole : n * 2 ^ 1074 ≡ scaled n * 4 ^ halfExp n
   unfolding scaled
@@ -129,5 +141,7 @@ module _ (n t z : ℕ) (r : Normed n t z) where
   unfolding packed
   packed-is = refl
 
-  pub packs : (v q : ℕ) → scaled n ≡ v * 2 ^ 52 → q ≡ nearRoot (v * 2 ^ 52) → (z + 969) / 2 * 2 ^ 52 + q ≡ packed n
-  packs v q e h = sym (packed-is ∙ ap (λ (x : ℕ). x * 2 ^ 52 + nearRoot (scaled n)) half-is ∙ ap (λ (x : ℕ). (z + 969) / 2 * 2 ^ 52 + x) (ap nearRoot e ∙ sym h))
+  pub packs : (v q : ℕ) → scaled n ≡ v * 2 ^ 52 → q ≡ nearRoot (v * 2 ^ 52) → (z + 969) / 2 * 2 ^ 52 % 2 ^ 64 + q ≡ packed n
+  packs v q e h =
+      let f : (z + 969) / 2 * 2 ^ 52 % 2 ^ 64 ≡ (z + 969) / 2 * 2 ^ 52 = omega (arith, r .most) in
+      rw f (sym (packed-is ∙ ap (λ (x : ℕ). x * 2 ^ 52 + nearRoot (scaled n)) half-is ∙ ap (λ (x : ℕ). (z + 969) / 2 * 2 ^ 52 + x) (ap nearRoot e ∙ sym h)))

@@ -1,20 +1,19 @@
 -- The whole root, and the nearest. `nearRoot` is opened once, in `near-closest`: all else goes by document 01's bounds and their having one
 -- solution, so a definition that missed the bounds would be refused there. Assumes nothing.
-use mathlib.Core.Path.{_≡_, subst}
+use mathlib.Core.Path.{_≡_, _∙_, subst}
 use mathlib.Core.Bool.{Bool, true, false, not, cond}
-use mathlib.Core.Logic.{_⊎_, inl, inr}
-use Prim.Native.Nat.{ℕ, zero, suc, _+_, _-_, _*_, _/_, _^_, _≤_, _<_}
-use native.Mathlib.Nat.{pow-suc, le-antisymm, lt-of-not-le, le-of-suc-le-suc, mul-le-mul, lt-irrefl, lt-of-lt-of-le, le-trans, eq-or-lt-of-le}
+use Prim.Native.Nat.{ℕ, zero, suc, _+_, _-_, _*_, _/_, _%_, _^_, _≤_, _<_}
+use native.Mathlib.Nat.{pow-suc, le-antisymm, lt-of-not-le, le-of-suc-le-suc, mul-le-mul}
 use native.Mathlib.Omega.{arith}
-use lib.Dec.{T, leb, ltb, leb→le, nleb→lt, ltb→lt, nltb→le}
+use lib.Dec.{T, leb, ltb, eqb, leb→le, nleb→lt, ltb→lt, nltb→le, eqb→eq}
+use lib.Ieee.Fits.{eq→eqb}
 use Rattle.leaves.specs.Root.{isqrt, nearRoot}
-use Rattle.leaves.specs.inner.Parts.{Rooted}
 
 -- w is the whole part of √n
 abbrev pub IsWholeRoot : ℕ → ℕ → Type 0
 IsWholeRoot n w = (w * w ≤ n) × (n < (w + 1) * (w + 1))
 
-pub isqrt-is : (d n : ℕ) → n < 4 ^ d → IsWholeRoot n (isqrt d n)
+isqrt-is : (d n : ℕ) → n < 4 ^ d → IsWholeRoot n (isqrt d n)
 unfolding isqrt
 isqrt-is zero n h = omega arith
 isqrt-is (suc d) n h = go (isqrt d (n / 4)) (isqrt-is d (n / 4) (omega (arith, pow-suc 4 d)))
@@ -25,19 +24,6 @@ isqrt-is (suc d) n h = go (isqrt d (n / 4)) (isqrt-is d (n / 4) (omega (arith, p
 
     go : (w : ℕ) → IsWholeRoot (n / 4) w → IsWholeRoot n (cond (leb ((2 * w + 1) * (2 * w + 1)) n) (2 * w + 1) (2 * w))
     go w r = pick w (leb ((2 * w + 1) * (2 * w + 1)) n) (leb→le ((2 * w + 1) * (2 * w + 1)) n) (nleb→lt ((2 * w + 1) * (2 * w + 1)) n) r
-
--- of a square at most n and the next square above n, the roots are in order
-pub roots-le : (a b n : ℕ) → a * a ≤ n → n < (b + 1) * (b + 1) → a ≤ b
-roots-le a b n p q = le-of-suc-le-suc (lt-of-not-le (λ (g : suc b ≤ a). no (mul-le-mul (more g) (more g))))
-  where
-    more : suc b ≤ a → b + 1 ≤ a
-    more g = omega arith
-
-    no : (b + 1) * (b + 1) ≤ a * a → ⊥
-    no g = lt-irrefl n (lt-of-lt-of-le q (le-trans g p))
-
-rooted-is : (n w rem : ℕ) → Rooted n w rem → IsWholeRoot n w
-rooted-is n w rem r = omega (arith, r .square, r .left)
 
 -- ---- the nearest whole number
 
@@ -88,53 +74,44 @@ closest-of n (suc u) p q r =
     let e : 2 * suc u - 1 ≡ 2 * u + 1 = omega arith in
     rw e (omega (arith, q, r))
 
-pub nearest : (n w : ℕ) → n < 4 ^ 53 → 0 < n → 0 < w → w * w < n + w → n ≤ w * w + w → w ≡ nearRoot n
+nearest : (n w : ℕ) → n < 4 ^ 53 → 0 < n → 0 < w → w * w < n + w → n ≤ w * w + w → w ≡ nearRoot n
 nearest n w h z p q r = closest-unique w (nearRoot n) n (closest-of n w p q r) (near-closest n z h)
 
--- ---- the whole root with what is left over, as the digit by digit working hands it on
+-- ---- from the root that has one digit more
 
-module _ (v w rem : ℕ) (r : Rooted (v * 2 ^ 52) w rem) (l : 2 ^ 52 ≤ v) (h : v + 1 < 2 ^ 54) where
-  pub floor-low : 2 ^ 52 ≤ w
-  floor-low = roots-le (2 ^ 52) w (v * 2 ^ 52) (omega arith) (rooted-is (v * 2 ^ 52) w rem r .1)
-
-  pub near-up : w < rem → w + 1 ≡ nearRoot (v * 2 ^ 52)
-  near-up k = nearest (v * 2 ^ 52) (w + 1) (omega arith) (omega arith) (omega arith) (omega (arith, r .square)) (omega (arith, r .square, r .left))
-
-  pub near-down : rem ≤ w → w ≡ nearRoot (v * 2 ^ 52)
-  near-down k = nearest (v * 2 ^ 52) w (omega arith) (omega arith) (omega (arith, floor-low)) (omega (arith, r .square, floor-low)) (omega (arith, r .square))
-
-  pub up-high : w < rem → w + 1 < 2 ^ 53
-  up-high k = go (eq-or-lt-of-le (r .small))
-    where
-      no : w ≡ 2 ^ 53 - 1 → ⊥
-      no e = omega (arith, (subst (λ (x : ℕ). x * x + rem ≡ v * 2 ^ 52) e (r .square)))
-
-      last : suc w ≡ 2 ^ 53 → w ≡ 2 ^ 53 - 1
-      last e = omega arith
-
-      go : (suc w ≡ 2 ^ 53) ⊎ (suc w < 2 ^ 53) → w + 1 < 2 ^ 53
-      go (inl e) = absurd (no (last e))
-      go (inr y) = omega arith
-
-rooted-of : (v : ℕ) → v + 1 < 2 ^ 54 → Rooted (v * 2 ^ 52) (isqrt 53 (v * 2 ^ 52)) (v * 2 ^ 52 - isqrt 53 (v * 2 ^ 52) * isqrt 53 (v * 2 ^ 52))
-rooted-of v h = go (isqrt 53 (v * 2 ^ 52)) (isqrt-is 53 (v * 2 ^ 52) (omega arith))
+-- the whole root w of 4 * n gives it, rounded by its last digit: w is 2 * q - 1 or 2 * q, and an odd square is no multiple of 4
+pub whole-near : (v w : ℕ) → 2 ^ 52 ≤ v → v + 1 < 2 ^ 54 → IsWholeRoot (v * 2 ^ 54) w → (w + 1) / 2 ≡ nearRoot (v * 2 ^ 52)
+whole-near v w l h i = go (eqb (w % 2) 0) (eqb→eq (w % 2) 0) (λ (e : w % 2 ≡ 0). eq→eqb e)
   where
-    go : (w : ℕ) → IsWholeRoot (v * 2 ^ 52) w → Rooted (v * 2 ^ 52) w (v * 2 ^ 52 - w * w)
-    go w i = record {
-      square = omega (arith, i .0);
-      left = omega (arith, i .1);
-      small = below w (roots-le w (2 ^ 53 - 1) (v * 2 ^ 52) (i .0) (omega arith));
-    }
+    some : (q : ℕ) → v * 2 ^ 54 < (2 * q + 1) * (2 * q + 1) → 0 < q
+    some zero k = omega arith
+    some (suc q) k = omega arith
+
+    even : (q : ℕ) → IsWholeRoot (v * 2 ^ 54) (2 * q) → q ≡ nearRoot (v * 2 ^ 52)
+    even q r = let p = some q (r .1) in nearest (v * 2 ^ 52) q (omega arith) (omega arith) p (omega (arith, r .0, p)) (omega (arith, r .1))
+
+    uneven : (q : ℕ) → IsWholeRoot (v * 2 ^ 54) (2 * q + 1) → q + 1 ≡ nearRoot (v * 2 ^ 52)
+    uneven q r = nearest (v * 2 ^ 52) (q + 1) (omega arith) (omega arith) (omega arith) (omega (arith, r .0)) (omega (arith, r .1))
+
+    go : (b : Bool) → (T b → w % 2 ≡ 0) → (w % 2 ≡ 0 → T b) → (w + 1) / 2 ≡ nearRoot (v * 2 ^ 52)
+    go true y n =
+        let z = y tt in
+        let e : w ≡ 2 * (w / 2) = omega (arith, z) in
+        let a : (w + 1) / 2 ≡ w / 2 = omega (arith, z) in
+        a ∙ even (w / 2) (subst (λ (x : ℕ). IsWholeRoot (v * 2 ^ 54) x) e i)
+    go false y n =
+        let e : w ≡ 2 * (w / 2) + 1 = other n in
+        let a : (w + 1) / 2 ≡ w / 2 + 1 = omega (arith, e) in
+        a ∙ uneven (w / 2) (subst (λ (x : ℕ). IsWholeRoot (v * 2 ^ 54) x) e i)
       where
-        below : (w : ℕ) → w ≤ 2 ^ 53 - 1 → w < 2 ^ 53
-        below w l = omega arith
+        other : (w % 2 ≡ 0 → ⊥) → w ≡ 2 * (w / 2) + 1
+        other n = omega arith
 
 pub near-bounds : (v : ℕ) → 2 ^ 52 ≤ v → v + 1 < 2 ^ 54 → (2 ^ 52 ≤ nearRoot (v * 2 ^ 52)) × (nearRoot (v * 2 ^ 52) < 2 ^ 53)
-near-bounds v l h = go (isqrt 53 (v * 2 ^ 52)) (v * 2 ^ 52 - isqrt 53 (v * 2 ^ 52) * isqrt 53 (v * 2 ^ 52)) (rooted-of v h)
+near-bounds v l h =
+    let c = near-closest (v * 2 ^ 52) (omega arith) (omega arith) in
+    let q = nearRoot (v * 2 ^ 52) in
+    (odd-lt (2 ^ 52) q (v * 2 ^ 52) (omega arith) (c .1), below q (odd-lt q (2 ^ 53 - 1) (v * 2 ^ 52) (c .0) (omega arith)))
   where
-    go : (w rem : ℕ) → Rooted (v * 2 ^ 52) w rem → (2 ^ 52 ≤ nearRoot (v * 2 ^ 52)) × (nearRoot (v * 2 ^ 52) < 2 ^ 53)
-    go w rem r = pick (ltb w rem) (ltb→lt w rem) (nltb→le w rem)
-      where
-        pick : (b : Bool) → (T b → w < rem) → (T (not b) → rem ≤ w) → (2 ^ 52 ≤ nearRoot (v * 2 ^ 52)) × (nearRoot (v * 2 ^ 52) < 2 ^ 53)
-        pick true p q = omega (arith, near-up v w rem r l h (p tt), floor-low v w rem r l h, up-high v w rem r l h (p tt))
-        pick false p q = omega (arith, near-down v w rem r l h (q tt), floor-low v w rem r l h, r .small)
+    below : (q : ℕ) → q ≤ 2 ^ 53 - 1 → q < 2 ^ 53
+    below q k = omega arith

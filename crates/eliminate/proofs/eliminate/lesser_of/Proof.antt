@@ -5,12 +5,12 @@ use Rattle.eliminate.specs.Eliminate.{lesser}
 use Rattle.eliminate.proofs.eliminate.lesser_of.Statement.{statement}
 use Rattle.eliminate.proofs.eliminate.lesser_of.Tie as tie
 
-sqrt-quarter-requires : tie.Need-sqrt-quarter-requires
-sqrt-quarter-requires c κs = search needs
+sqrt-requires : tie.Need-sqrt-requires
+sqrt-requires c κs = search needs
 
 returns : tie.Need-returns
 unfolding ofBits lesser
-returns c = rw (c .sqrt-quarter .ensures)
+returns c = rw (c .sqrt .ensures)
 
 pub lesser-of-spec : {M : Type 1} → statement M
-lesser-of-spec = tie.close (tie.spec sqrt-quarter-requires returns)
+lesser-of-spec = tie.close (tie.spec sqrt-requires returns)

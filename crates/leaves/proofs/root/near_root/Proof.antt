@@ -1,31 +1,48 @@
--- `root::near_root` meets its contract: by either way it is the nearest root, and has 53 digits. Assumes nothing.
-use mathlib.Core.Path.{_≡_}
-use Prim.Native.Nat.{ℕ, _+_, _*_, _^_, _≤_, _<_}
+-- `root::near_root` meets its contract: each turn keeps `Going`, and after 54 digits half of s is the whole root of 4S. Assumes nothing.
+use Prim.Native.Nat.{_-_, _^_, _≤_}
 use native.Mathlib.Omega.{arith}
-use Rattle.leaves.specs.Root.{nearRoot}
-use Rattle.leaves.proofs.root.Whole.{near-bounds}
-use borrow.Author.Needs.{needs}
+use Rattle.leaves.proofs.root.Digits.{Going, start, ready, turn, finish}
 use Rattle.leaves.proofs.root.near_root.Statement.{statement}
 use Rattle.leaves.proofs.root.near_root.Tie as tie
 
-bounded : (v : ℕ) {r : ℕ} → (2 ^ 52 ≤ v) × (v + 1 < 2 ^ 54) → r ≡ nearRoot (v * 2 ^ 52) → (r ≡ nearRoot (v * 2 ^ 52)) × (2 ^ 52 ≤ r) × (r < 2 ^ 53)
-bounded v h e = let n = near-bounds v (h .0) (h .1) in (e, omega (arith, e, n .0), omega (arith, e, n .1))
+abbrev Inv-loop : tie.InvT-loop
+Inv-loop v s₀ rem₀ r₀ c₀ s rem r c = (c ≤ 54) × Going v s rem r (2 ^ (54 - c))
 
-near-by-requires : tie.Need-near-by-requires
-near-by-requires c κs = search needs
+abbrev μ-loop : tie.MeasureT-loop
+μ-loop v s₀ rem₀ r₀ c₀ s rem r c = 54 - c
 
-near-slow-requires : tie.Need-near-slow-requires
-near-slow-requires c κs = search needs
+add-rem : tie.Need-add-rem Inv-loop μ-loop
+add-rem c = omega arith
 
-returns : tie.Need-returns
+loop-holds : tie.Need-loop-holds Inv-loop μ-loop
+loop-holds c = (omega arith, start (c .args .v) (c .pre .1))
+
+digit-requires : tie.Need-digit-requires Inv-loop μ-loop
+digit-requires c κs =
+    let l = c .before .loop in
+    ready (c .before .before .args .v) (l .s) (l .rem) (l .r) (l .c) (l .inv .1) (c .loop-test .taken)
+
+add-c : tie.Need-add-c Inv-loop μ-loop
+add-c c = omega arith
+
+loop-less : tie.Need-loop-less Inv-loop μ-loop
+loop-less c = omega arith
+
+loop-again : tie.Need-loop-again Inv-loop μ-loop
+loop-again c =
+    let l = c .before .before .loop in
+    (omega arith, turn (c .before .before .before .args .v) (l .s) (l .rem) (l .r) (l .c) (l .inv .1) (c .before .loop-test .taken) _ _ (c .digit .ensures))
+
+add-result : tie.Need-add-result Inv-loop μ-loop
+add-result c = omega (arith, c .before .loop .inv .1 .most)
+
+returns : tie.Need-returns Inv-loop μ-loop
 returns c =
-    let s = c .before .before in
-    bounded (s .args .v) (s .pre .0) (c .before .near-by .ensures (c .if1 .taken))
-
-returns-2 : tie.Need-returns-2
-returns-2 c =
-    let s = c .before .before .before in
-    bounded (s .args .v) (s .pre .0) (c .near-slow .ensures)
+    let l = c .before .loop in
+    let p = c .before .before .pre in
+    finish (c .before .before .args .v) (l .s) (l .rem) (l .r) (l .c) (l .inv .1) (l .inv .0) (c .loop-test .left) (p .0) (p .1)
 
 pub near-root-spec : {M : Type 1} → statement M
-near-root-spec = tie.close (tie.spec near-by-requires near-slow-requires returns returns-2)
+near-root-spec =
+    tie.close
+    (tie.spec Inv-loop μ-loop add-rem loop-holds digit-requires add-c loop-less loop-again add-result returns)

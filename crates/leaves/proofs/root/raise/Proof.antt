@@ -10,14 +10,8 @@ Inv-loop t m₀ z₀ m z = Raised t m z
 abbrev μ-loop : tie.MeasureT-loop
 μ-loop t m₀ z₀ m z = z
 
-mul-m : tie.Need-mul-m Inv-loop μ-loop
-mul-m c = omega arith
-
 loop-holds : tie.Need-loop-holds Inv-loop μ-loop
 loop-holds c = raised-start (c .args .t) (c .pre .1)
-
-mul-m-2 : tie.Need-mul-m-2 Inv-loop μ-loop
-mul-m-2 c = omega arith
 
 sub-z : tie.Need-sub-z Inv-loop μ-loop
 sub-z c = raised-pos _ _ _ (c .before .loop .inv) (c .before .before .pre .0) (c .loop-test .taken)
@@ -36,4 +30,4 @@ returns c =
 pub raise-spec : {M : Type 1} → statement M
 raise-spec =
     tie.close
-    (tie.spec Inv-loop μ-loop mul-m loop-holds mul-m-2 sub-z loop-less loop-again returns)
+    (tie.spec Inv-loop μ-loop loop-holds sub-z loop-less loop-again returns)

@@ -22,6 +22,10 @@ returns c = nan-root (c .before .args .x) (c .if1 .taken)
 returns-2 : tie.Need-returns-2
 returns-2 c = zero-root (c .before .before .args .x) (c .if2 .taken)
 
+float-from-bits-top : tie.Need-float-from-bits-top
+unfolding nanBits
+float-from-bits-top c = tt
+
 returns-3 : tie.Need-returns-3
 returns-3 c = below-root (c .before .before .before .args .x) (c .if3 .taken)
 
@@ -58,6 +62,7 @@ sqrt-spec =
     (tie.spec
     returns
     returns-2
+    float-from-bits-top
     returns-3
     float-to-bits-b
     returns-4
