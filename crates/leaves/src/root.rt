@@ -90,7 +90,7 @@ fn digit(s: u64, rem: u64, r: u64) -> Going
     }
 }
 
-// q, by 54 digits.
+// q, by 54 digits: after the last, worth 1, nothing is left of r.
 fn near_root(v: u64) -> u64
     requires { ⌜ (2 ^ 52 ≤ v) × (v + 1 < 2 ^ 54) ⌝ }
     ensures { λ q. ⌜ (q ≡ nearRoot (v * 2 ^ 52)) × (2 ^ 52 ≤ q) × (q < 2 ^ 53) ⌝ }
@@ -98,13 +98,11 @@ fn near_root(v: u64) -> u64
     let mut s: u64 = 0;
     let mut rem = v + v;
     let mut r: u64 = 0x20_0000_0000_0000;
-    let mut c: u64 = 0;
-    while c < 54 {
+    while r > 0 {
         let g = digit(s, rem, r);
         s = g.s;
         rem = g.rem;
         r = r >> 1;
-        c += 1;
     }
     (s + 2) >> 2
 }
