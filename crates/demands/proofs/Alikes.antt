@@ -12,14 +12,15 @@ use lib.Ieee.{Float}
 use borrow.Author.Tests.{eqb-true}
 use Rattle.leaves.specs.Reply.{answered, refused}
 use Rattle.leaves.specs.Number.{plusZero}
-use Rattle.leaves.specs.Norm.{norm}
+use Rattle.leaves.specs.Norm.{norm, rangesOf}
+use Rattle.leaves.specs.declared.norm.Ranges.{Ranges}
 use Rattle.leaves.specs.Triangle.{columns}
 use Rattle.leaves.proofs.Replies.{refused-answered}
 use Rattle.leaves.specs.Loop.{countFrom}
 use Rattle.factor.specs.State.{isEmpty, empty, storeNeed, benchNeed}
 use Rattle.leaves.specs.Square.{uppersFrom, belowsFrom, joined, zeros}
 use Rattle.factor.specs.Room.{part, load, lay}
-use Rattle.reduce.specs.Reduction.{Reduction, reduction-of}
+use Rattle.reduce.specs.Reduction.{Reduction, reduction-of, measured}
 use Rattle.factor.specs.Factoring.{uppers, transformed, noLower, Factored, factored, factorTests, factoredRoom, finiteRoom, factorWorked, factorCall}
 use Rattle.factor.specs.Outcome.{written}
 use Rattle.leaves.specs.Tests.{firstOf}
@@ -99,33 +100,33 @@ module _ (m n : ℕ) (jacobian residuals : List Float) where
     abbrev pub tested : ℕ
     tested = firstOf (factorTests m n jacobian residuals (length s) (length order) (length bench))
 
-    worked-accepted : factorWorked m n jacobian residuals s order bench .reply ≡ answered tt → Accepted s order (factorWorked m n jacobian residuals s order bench)
+    worked-accepted : {f : Ranges} → factorWorked m n jacobian residuals s order bench .reply ≡ answered f → Accepted s order (factorWorked m n jacobian residuals s order bench)
     unfolding factorWorked
-    worked-accepted = by (finiteRoom (factoredRoom m n norms whole (drop (storeNeed n) s)))
+    worked-accepted {f} = by (finiteRoom (factoredRoom m n norms whole (drop (storeNeed n) s))) f
       where
         by : (x : Bool) → (let g : Factored = elim x [
-          | true ↦ factored (answered tt) (record { m = m; n = n; held = held.Nothing }) (lay (factoredRoom m n norms whole (drop (storeNeed n) s))) (whole .order ++ drop n order) (written (zeros (benchNeed m n)) bench)
+          | true ↦ factored (answered (rangesOf (measured m n (columns m n jacobian) (take m residuals)))) (record { m = m; n = n; held = held.Nothing }) (lay (factoredRoom m n norms whole (drop (storeNeed n) s))) (whole .order ++ drop n order) (written (zeros (benchNeed m n)) bench)
           | false ↦ factored (refused 8) empty (written (zeros (storeNeed n)) s) (countFrom n 0 ++ drop n order) (written (zeros (benchNeed m n)) bench)
-        ] in g .reply ≡ answered tt → Accepted s order g)
-        by true h = record { state = refl; store = refl; order-list = refl }
-        by false h = refused-answered h
+        ] in (f : Ranges) → g .reply ≡ answered f → Accepted s order g)
+        by true f h = record { state = refl; store = refl; order-list = refl }
+        by false f h = refused-answered h
 
     -- LAW: what an accepted factoring leaves
-    pub accepted : factorCall m n jacobian residuals s order bench .reply ≡ answered tt
+    pub accepted : {f : Ranges} → factorCall m n jacobian residuals s order bench .reply ≡ answered f
         → (tested ≡ 0) × Accepted s order (factorCall m n jacobian residuals s order bench)
     unfolding factorCall
-    accepted = by (eqb tested 0) refl
+    accepted {f} = by (eqb tested 0) refl f
       where
         by : (x : Bool) → eqb tested 0 ≡ x
             → (let g : Factored = elim x [ true ↦ factorWorked m n jacobian residuals s order bench | false ↦ factored (refused tested) empty s order bench ] in
-            g .reply ≡ answered tt → (tested ≡ 0) × Accepted s order g)
-        by true e h = (eqb-true tested 0 e, worked-accepted h)
-        by false e h = refused-answered h
+            (f : Ranges) → g .reply ≡ answered f → (tested ≡ 0) × Accepted s order g)
+        by true e f h = (eqb-true tested 0 e, worked-accepted h)
+        by false e f h = refused-answered h
 
   -- LAW: two accepted factorings, whatever was lent to each
-  pub refactored : (s t : List Float) (o p : List ℕ) (b d : List Float) → (let g = factorCall m n jacobian residuals s o b in
+  pub refactored : (s t : List Float) (o p : List ℕ) (b d : List Float) {e f : Ranges} → (let g = factorCall m n jacobian residuals s o b in
       let h = factorCall m n jacobian residuals t p d in
-      g .reply ≡ answered tt → h .reply ≡ answered tt
+      g .reply ≡ answered e → h .reply ≡ answered f
       → SameContents (g .state) (g .store) (h .store) × (g .state ≡ h .state) × (isEmpty (g .state .held) ≡ false))
   refactored s t o p b d x y =
       let g = accepted s o b x in
@@ -146,9 +147,9 @@ module _ (m n : ℕ) (jacobian residuals : List Float) where
       )
 
   -- and their order lists
-  pub reordered : (s t : List Float) (o p : List ℕ) (b d : List Float) → (let g = factorCall m n jacobian residuals s o b in
+  pub reordered : (s t : List Float) (o p : List ℕ) (b d : List Float) {e f : Ranges} → (let g = factorCall m n jacobian residuals s o b in
       let h = factorCall m n jacobian residuals t p d in
-      g .reply ≡ answered tt → h .reply ≡ answered tt → (n ≤ length (g .order)) × (n ≤ length (h .order)) × (take n (g .order) ≡ take n (h .order)))
+      g .reply ≡ answered e → h .reply ≡ answered f → (n ≤ length (g .order)) × (n ≤ length (h .order)) × (take n (g .order) ≡ take n (h .order)))
   reordered s t o p b d x y =
       let g = accepted s o b x in
       let h = accepted t p d y in
@@ -176,7 +177,7 @@ module _ (m n : ℕ) (jacobian residuals s t : List Float) (o p : List ℕ) (b d
   abbrev pub other : Factored
   other = factorCall m n jacobian residuals t p d
 
-  pub as-fresh : one .reply ≡ answered tt → other .reply ≡ answered tt → (cs : List StoreCall) (c : StoreCall)
+  pub as-fresh : {f g : Ranges} → one .reply ≡ answered f → other .reply ≡ answered g → (cs : List StoreCall) (c : StoreCall)
       → (let x = run performStore (one .order) cs (one .state) (one .store) in
       let y = run performStore (other .order) (latest performStore (one .order) settling [] cs (one .state) (one .store)) (other .state) (other .store) in
       ToldAlike (performStore c (x .0) (one .order) (x .1)) (performStore c (y .0) (other .order) (y .1)))

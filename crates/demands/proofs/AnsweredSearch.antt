@@ -18,11 +18,10 @@ use Rattle.search.specs.Problem.{Problem, undampedStep, scaledNorm}
 use Rattle.search.specs.Bounds.{band}
 use Rattle.search.specs.Run.{within, runOf}
 use Rattle.search.specs.Ending.{ending}
-use Rattle.search.specs.Search.{problemOf, searchCall}
-use Rattle.search.specs.declared.LMParameter.{LMParameter}
+use Rattle.search.specs.Search.{Flagged, problemOf, searchCall}
 use Rattle.demands.proofs.SearchAnswers as told
 
-module _ (st : State) (order : List ℕ) (diag : List Float) (radius lambda : Float) (store out : List Float) (a : LMParameter) (h : searchCall st order diag radius lambda store out .reply ≡ answered a) where
+module _ (st : State) (order : List ℕ) (diag : List Float) (radius lambda : Float) (store out : List Float) (a : Flagged) (h : searchCall st order diag radius lambda store out .reply ≡ answered a) where
   abbrev asked : Problem
   asked = problemOf st order diag radius (load (st .n) store)
 
@@ -39,15 +38,15 @@ module _ (st : State) (order : List ℕ) (diag : List Float) (radius lambda : Fl
   answered-step = (told.step-finite st order diag radius lambda store out a h, told.surplus-kept st order diag radius lambda store out a h)
 
   -- lambda is finite and not below zero, and there are at most ten trials, none where lambda is zero
-  pub answered-lambda : (isFinite (a .lambda) ≡ true) × (lt (a .lambda) plusZero ≡ false)
+  pub answered-lambda : (isFinite (a .0 .lambda) ≡ true) × (lt (a .0 .lambda) plusZero ≡ false)
   answered-lambda = (told.lambda-finite st order diag radius lambda store out a h, told.lambda-not-below st order diag radius lambda store out a h)
 
-  pub answered-trials : (a .trials ≤ 10) × (le overshoot (band radius) ≡ true → a .trials ≡ 0)
+  pub answered-trials : (a .0 .trials ≤ 10) × (le overshoot (band radius) ≡ true → a .0 .trials ≡ 0)
   answered-trials = (told.trials-few st order diag radius lambda store out a h, told.no-trial st order diag radius lambda store out a h)
 
   -- the norm is finite, and is the norm of scaling times step; stopped `within`, it is within a tenth of the radius of it
-  pub answered-norm : (isFinite (a .«dp_norm») ≡ true) × (a .«dp_norm» ≡ norm (productAll step (take (st .n) diag)))
+  pub answered-norm : (isFinite (a .0 .«dp_norm») ≡ true) × (a .0 .«dp_norm» ≡ norm (productAll step (take (st .n) diag)))
   answered-norm = (told.norm-finite st order diag radius lambda store out a h, told.norm-of-step st order diag radius lambda store out a h)
 
-  pub answered-within : ending (runOf asked lambda) ≡ inl within → le (absOf (sub binary64 (a .«dp_norm») radius)) (band radius) ≡ true
+  pub answered-within : ending (runOf asked lambda) ≡ inl within → le (absOf (sub binary64 (a .0 .«dp_norm») radius)) (band radius) ≡ true
   answered-within = told.within-band st order diag radius lambda store out a h

@@ -8,6 +8,7 @@ use Prim.Native.Nat.{ℕ, _≤_}
 use lib.Dec.{eqb}
 use lib.ListN.{length, take}
 use lib.Ieee.{Float}
+use Rattle.leaves.specs.declared.norm.Ranges.{Ranges}
 use Rattle.leaves.specs.Reply.{answered, refused}
 use Rattle.leaves.proofs.Replies.{answered-refused}
 use Rattle.factor.specs.State.{isEmpty, empty}
@@ -47,7 +48,7 @@ module _ (m n : ℕ) (jacobian residuals s t : List Float) (o p : List ℕ) (b d
   abbrev pub other : Factored
   other = factorCall m n jacobian residuals t p d
 
-  pub as-fresh : one .reply ≡ answered tt → other .reply ≡ answered tt → (cs : List Call) (c : Call)
+  pub as-fresh : {f g : Ranges} → one .reply ≡ answered f → other .reply ≡ answered g → (cs : List Call) (c : Call)
       → (let x = run perform (one .order) cs (one .state) (one .store) in
       let y = run perform (other .order) (latest perform (one .order) settling [] cs (one .state) (one .store)) (other .state) (other .store) in
       ToldAlike (perform c (x .0) (one .order) (x .1)) (perform c (y .0) (other .order) (y .1)))

@@ -7,6 +7,7 @@ use mathlib.Core.List.{List, [], _∷_}
 use lib.IntN.{pos}
 use lib.ListN.{replicate, length}
 use lib.Ieee.{Float, nan, inf, fin, binary64, round}
+use Rattle.leaves.specs.Norm.{neither}
 use Rattle.leaves.specs.Reply.{Reply, answered, refused}
 use Rattle.leaves.specs.Number.{plusZero}
 use Rattle.factor.specs.State.{empty}
@@ -15,10 +16,9 @@ use Rattle.factor.specs.Outcome.{Ended, ended}
 use Rattle.demands.specs.Calls.{zero-solve, damped-solve, held-product, done, run}
 use Rattle.factor.specs.declared.state.State.{State}
 use Rattle.factor.specs.declared.state.Held.the-variants as held
-use Rattle.search.specs.Search.{searchCall}
+use Rattle.search.specs.Search.{Flagged, searchCall}
 use Rattle.demands.specs.History.{Call, base, Outcome, of-base, perform}
 use Rattle.demands.specs.inner.Opened.{opened}
-use Rattle.search.specs.declared.LMParameter.{LMParameter}
 
 -- a whole number, and 10^-e
 abbrev w : ℕ → Float
@@ -41,10 +41,10 @@ factoredRow row residual = let n = length row in factorCall 1 n row (residual �
 abbrev six : Factored
 six = factoredRow (w 3 ∷ []) (w 6)
 
-abbrev asks : State → List ℕ → List Float → Float → Float → List Float → Ended LMParameter
+abbrev asks : State → List ℕ → List Float → Float → Float → List Float → Ended Flagged
 asks st order diag radius lambda out = searchCall st order diag radius lambda (six .store) out
 
-abbrev refusedBy : ℕ → State → List Float → Ended LMParameter
+abbrev refusedBy : ℕ → State → List Float → Ended Flagged
 refusedBy k st out = ended (refused k) st (six .store) out
 
 pub refused-two : asks (record { m = 129; n = 1; held = held.Nothing }) (six .order) (w 1 ∷ []) (w 2) plusZero (junk 1) ≡ refusedBy 2 (record { m = 129; n = 1; held = held.Nothing }) (junk 1)
@@ -76,7 +76,7 @@ pub refused-seven :
     × (asks (six .state) (six .order) (w 1 ∷ []) minusZero plusZero (junk 1) ≡ refusedBy 7 (six .state) (junk 1))
     × (asks (six .state) (six .order) (w 1 ∷ []) (w 2) (round binary64 true 1 1) (junk 1) ≡ refusedBy 7 (six .state) (junk 1))
     × (asks (six .state) (six .order) (minusZero ∷ []) (w 2) plusZero (junk 1) ≡ refusedBy 7 (six .state) (junk 1))
-    × (asks (six .state) (six .order) (w 1 ∷ []) (w 2) minusZero (junk 1) .reply ≡ answered (record { lambda = plusZero; «dp_norm» = w 2; trials = 0 }))
+    × (asks (six .state) (six .order) (w 1 ∷ []) (w 2) minusZero (junk 1) .reply ≡ answered (record { lambda = plusZero; «dp_norm» = w 2; trials = 0 }, neither))
 unfolding opened
 refused-seven = (refl, refl, refl, refl, refl)
 
@@ -89,8 +89,8 @@ unfolding opened
 refused-eight = refl
 
 -- ---- trials
-abbrev trialsOf : Reply LMParameter → Reply ℕ
-trialsOf (answered a) = answered (a .trials)
+abbrev trialsOf : Reply Flagged → Reply ℕ
+trialsOf (answered a) = answered (a .0 .trials)
 trialsOf (refused k) = refused k
 
 abbrev searches : List Float → Float → List Float → Float → Float → Reply ℕ

@@ -7,7 +7,7 @@
 --
 -- Assumes nothing.
 use Prim.Native.Nat.{ℕ, _<_, _≤_}
-use mathlib.Core.Path.{_≡_}
+use mathlib.Core.Path.{_≡_, sym, _∙_}
 use mathlib.Core.Bool.{true, false}
 use mathlib.Core.List.{List, []}
 use mathlib.Core.Logic.{_↔_, _⊎_, inl}
@@ -23,6 +23,7 @@ use Rattle.leaves.specs.Reply.{answered, refused}
 use Rattle.leaves.specs.Number.{plusZero, dwarf}
 use Rattle.leaves.specs.Root.{rootS}
 use Rattle.leaves.specs.Norm.{norm}
+use Rattle.leaves.specs.declared.norm.Ranges.{Ranges}
 use Rattle.leaves.proofs.root.Meets.{sqrt-meets, sqrt-unique}
 use Rattle.factor.specs.State.{isEmpty, empty}
 use Rattle.factor.specs.Room.{load}
@@ -35,9 +36,8 @@ use Rattle.search.specs.Bounds.{band}
 use Rattle.search.specs.Run.{within, falling, runOf}
 use Rattle.search.specs.Ending.{ending, RuledFrom}
 use Rattle.search.specs.Enorm.{minpackEnorm}
-use Rattle.search.specs.Search.{problemOf, searchCall}
+use Rattle.search.specs.Search.{Flagged, problemOf, searchCall}
 use Rattle.demands.specs.History.{Call, search, found, numberOf, perform, isSolve, settling, leftAs}
-use Rattle.search.specs.declared.LMParameter.{LMParameter}
 use Rattle.search.specs.declared.trust_region.SearchTold.{SearchTold}
 use Rattle.search.proofs.trust_region.determine_lambda_and_parameter_update.{signature}
 use Rattle.search.proofs.trust_region.determine_lambda_and_parameter_update.Reads as code
@@ -67,7 +67,7 @@ use Rattle.demands.specs.Alike.{Kept, ToldAlike, SameContents}
 use Rattle.demands.specs.Factorings.{roomMade, factoringStands, factoringBreaks}
 use Rattle.demands.specs.Workings.{Leaves, Workings, Parts, SharedTests, SheetLines}
 use Rattle.factor.specs.AsFactored.{AsFactored}
-use Rattle.factor.proofs.Answered.{answered-as-factored}
+use Rattle.factor.proofs.Answered.{answered-as-factored, factoring-flags}
 use Rattle.demands.proofs.LinesTable.{sheet-lines}
 
 -- ==== Demand 1. "Every call ends on every input. Bad input gets the refusal that document 01 numbers, outputs stay unwritten, and the lent store
@@ -138,12 +138,12 @@ module _ (m n : ℕ) (jacobian residuals store : List Float) (order : List ℕ) 
   demand-1-factoring-answered-left = factoring.answered-whole m n jacobian residuals store order bench
 
   -- "After factoring": what the table of the lent room says of the store, +0 below R, in l_diag and in work, and every number of it finite.
-  pub demand-1-factoring-room : factorCall m n jacobian residuals store order bench .reply ≡ answered tt → AsFactored n (load n (factorCall m n jacobian residuals store order bench .store))
+  pub demand-1-factoring-room : {f : Ranges} → factorCall m n jacobian residuals store order bench .reply ≡ answered f → AsFactored n (load n (factorCall m n jacobian residuals store order bench .store))
   demand-1-factoring-room = answered-as-factored m n jacobian residuals store order bench
 
 -- The leaves, a row for each that can be refused: 2 for over 128 numbers to a norm, 3 for slices whose lengths do not fit, each exactly then, the
 -- output as it came; answered otherwise. `copy_long` has `copy`'s definition. The others are never refused, their contracts are equations with a number, a
--- truth or what is filled: those of `number`, the two roots, `fill`, `clear_long`, `count`, `all_finite`, `none_zero`, `outside`, `least`, `room16`.
+-- truth, flags or what is filled: those of `number`, the root, `neither`, `either`, `fill`, `clear_long`, `count`, `all_finite`, `none_zero`, `outside`, `least`, `room16`.
 pub demand-1-leaves : Leaves
 demand-1-leaves = leaf.leaves
 
@@ -206,20 +206,20 @@ demand-2-norm = norm-is-enorm
 
 -- The search is MINPACK-1's LMPAR, with that ENORM and document 01's dwarf: where m ≥ n, a search that answers has LMPAR's x and par, and as many trials
 -- as LMPAR has calls of QRSOLV.
-pub demand-2-search : (unset : Float) (st : State) (order : List ℕ) (diag : List Float) (radius lambda : Float) (store out : List Float) (a : LMParameter)
+pub demand-2-search : (unset : Float) (st : State) (order : List ℕ) (diag : List Float) (radius lambda : Float) (store out : List Float) (a : Flagged)
     → searchCall st order diag radius lambda store out .reply ≡ answered a → st .n ≤ st .m
     → lmpar (minpackEnorm unset) dwarf (lentOf st order diag radius store) lambda
-    ≡ record { x = take (st .n) (searchCall st order diag radius lambda store out .out); par = a .lambda; qrsolvs = a .trials }
+    ≡ record { x = take (st .n) (searchCall st order diag radius lambda store out .out); par = a .0 .lambda; qrsolvs = a .0 .trials }
 demand-2-search = search-answers-as-lmpar
 
 -- After a factoring it is so for m < n too, straight after it or after any calls since.
-pub demand-2-search-factored : (m n : ℕ) (jacobian residuals store : List Float) (order : List ℕ) (bench : List Float)
-    → (let f = factorCall m n jacobian residuals store order bench in f .reply ≡ answered tt → (cs : List Call)
+pub demand-2-search-factored : (m n : ℕ) (jacobian residuals store : List Float) (order : List ℕ) (bench : List Float) {seen : Ranges}
+    → (let f = factorCall m n jacobian residuals store order bench in f .reply ≡ answered seen → (cs : List Call)
     → (let x = run perform (f .order) cs (f .state) (f .store) in
-    (unset : Float) (diag : List Float) (radius lambda : Float) (out : List Float) (a : LMParameter)
+    (unset : Float) (diag : List Float) (radius lambda : Float) (out : List Float) (a : Flagged)
     → searchCall (x .0) (f .order) diag radius lambda (x .1) out .reply ≡ answered a
     → lmpar (minpackEnorm unset) dwarf (lentOf (x .0) (f .order) diag radius (x .1)) lambda
-    ≡ record { x = take (x .0 .n) (searchCall (x .0) (f .order) diag radius lambda (x .1) out .out); par = a .lambda; qrsolvs = a .trials }))
+    ≡ record { x = take (x .0 .n) (searchCall (x .0) (f .order) diag radius lambda (x .1) out .out); par = a .0 .lambda; qrsolvs = a .0 .trials }))
 demand-2-search-factored = factored-answers-as-lmpar
 
 -- ==== Demand 3. "Factor once, lend the same store and order list each time, pass each returned state on, and let nobody else write those two."
@@ -233,14 +233,20 @@ demand-3-settling = table.settles-when
 
 -- Two factorings of the same Jacobian and residuals, each in its own lent slices; a run of calls after the one, and after the other the latest of
 -- them that settled (none, if none did): then any call tells the same, answer, state and output.
-pub demand-3-as-fresh : (m n : ℕ) (jacobian residuals store store′ : List Float) (order order′ : List ℕ) (bench bench′ : List Float)
+pub demand-3-as-fresh : (m n : ℕ) (jacobian residuals store store′ : List Float) (order order′ : List ℕ) (bench bench′ : List Float) {f g : Ranges}
     → (let one = factorCall m n jacobian residuals store order bench in
     let other = factorCall m n jacobian residuals store′ order′ bench′ in
-    one .reply ≡ answered tt → other .reply ≡ answered tt → (cs : List Call) (c : Call)
+    one .reply ≡ answered f → other .reply ≡ answered g → (cs : List Call) (c : Call)
     → (let x = run perform (one .order) cs (one .state) (one .store) in
     let y = run perform (other .order) (latest perform (one .order) settling [] cs (one .state) (one .store)) (other .state) (other .store) in
     ToldAlike (perform c (x .0) (one .order) (x .1)) (perform c (y .0) (other .order) (y .1))))
 demand-3-as-fresh = as-fresh
+
+-- The flags of 02, #106, belong to the answer, so that the theorem above is of them too; and the two factorings answer the same ones.
+pub demand-3-flags : (m n : ℕ) (jacobian residuals store store′ : List Float) (order order′ : List ℕ) (bench bench′ : List Float) {f g : Ranges}
+    → factorCall m n jacobian residuals store order bench .reply ≡ answered f → factorCall m n jacobian residuals store′ order′ bench′ .reply ≡ answered g → f ≡ g
+demand-3-flags m n jacobian residuals store store′ order order′ bench bench′ h k =
+    factoring-flags m n jacobian residuals store order bench h ∙ sym (factoring-flags m n jacobian residuals store′ order′ bench′ k)
 
 -- The same in any two stores that hold the same R, qt_b, norms, lower part and l_diag, whatever is in work and surplus: those of two factorings do.
 pub demand-3-any-store : (order : List ℕ) (st : State) (store store′ : List Float) → isEmpty (st .held) ≡ false → SameContents st store store′ → (cs : List Call) (c : Call)
@@ -262,7 +268,7 @@ pub demand-3-never-changed : (order : List ℕ) (cs : List Call) (st : State) (s
 demand-3-never-changed = never-changed
 
 -- An answered search, in any state, with any store and order list.
-module _ (st : State) (order : List ℕ) (diag : List Float) (radius lambda : Float) (store out : List Float) (a : LMParameter) (h : searchCall st order diag radius lambda store out .reply ≡ answered a) where
+module _ (st : State) (order : List ℕ) (diag : List Float) (radius lambda : Float) (store out : List Float) (a : Flagged) (h : searchCall st order diag radius lambda store out .reply ≡ answered a) where
   abbrev asked : Problem
   asked = problemOf st order diag radius (load (st .n) store)
 
@@ -271,18 +277,18 @@ module _ (st : State) (order : List ℕ) (diag : List Float) (radius lambda : Fl
   overshoot = sub binary64 (scaledNorm asked (undampedStep asked)) radius
 
   -- "An answered search gives lambda zero exactly when the computed undamped scaled norm less the radius is at most the computed tenth of the radius."
-  pub demand-3-lambda : (a .lambda ≡ plusZero) ↔ (le overshoot (band radius) ≡ true)
+  pub demand-3-lambda : (a .0 .lambda ≡ plusZero) ↔ (le overshoot (band radius) ≡ true)
   demand-3-lambda = told.lambda-rule st order diag radius lambda store out a h
 
   -- "Otherwise lambda is above zero after one to ten trials, and fewer than ten only for a stop rule in document 01." `within` is |fp| ≤ delta·0.1,
   -- `falling` is lower bound zero, fp ≤ previous fp, previous fp negative.
   pub demand-3-trials : le overshoot (band radius) ≡ false
-      → (lt plusZero (a .lambda) ≡ true)
-      × ((1 ≤ a .trials) × ((a .trials ≤ 10) × (a .trials < 10 → (ending (runOf asked lambda) ≡ inl within) ⊎ (ending (runOf asked lambda) ≡ inl falling))))
+      → (lt plusZero (a .0 .lambda) ≡ true)
+      × ((1 ≤ a .0 .trials) × ((a .0 .trials ≤ 10) × (a .0 .trials < 10 → (ending (runOf asked lambda) ≡ inl within) ⊎ (ending (runOf asked lambda) ≡ inl falling))))
   demand-3-trials = told.trial-rule st order diag radius lambda store out a h
 
   -- "The last cannot apply at t = 1": `falling` takes two trials at least.
-  pub demand-3-falling : ending (runOf asked lambda) ≡ inl falling → 2 ≤ a .trials
+  pub demand-3-falling : ending (runOf asked lambda) ≡ inl falling → 2 ≤ a .0 .trials
   demand-3-falling = told.falling-later st order diag radius lambda store out a h
 
   -- A run that began its trials stops by one of these rules only where it holds, of the numbers of its trials.

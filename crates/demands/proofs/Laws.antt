@@ -9,6 +9,9 @@ use lib.Dec.{eqb, ltb}
 use lib.ListN.{length, take, length-replicate}
 use lib.Ieee.{Float}
 use borrow.Author.Tests.{ltb-true, ltb-false, lt-ltb, le-ltb, eqb-true, eqb-false, eq-eqb, ne-eqb}
+use Rattle.leaves.specs.Norm.{rangesOf}
+use Rattle.leaves.specs.declared.norm.Ranges.{Ranges}
+use Rattle.search.specs.Measured.{measuredBy}
 use Rattle.leaves.specs.Reply.{Reply, answered, refused}
 use Rattle.leaves.specs.Number.{plusZero}
 use Rattle.factor.specs.State.{isEmpty, storeNeed, withHeld}
@@ -32,11 +35,10 @@ use Rattle.demands.proofs.Keeping.{Settled, Unsettled, LawsOf}
 use Rattle.demands.proofs.Keeping as base
 use Rattle.search.specs.Problem.{Problem}
 use Rattle.search.specs.Run.{Stop, Place}
-use Rattle.search.specs.Search.{Answer, answerOf, searched, searchCall}
+use Rattle.search.specs.Search.{Flagged, Answer, answerOf, searched, searchCall}
 use Rattle.search.specs.inner.Read.{Ready}
 use Rattle.demands.specs.History.{Call, search, Outcome, ofBase, ofSearch, of-base, perform, settling}
 use Rattle.demands.specs.History as any
-use Rattle.search.specs.declared.LMParameter.{LMParameter}
 use Rattle.search.proofs.Calling.{ready}
 use Rattle.demands.proofs.SearchTable.{tests, tested, asked, given, ends, passed-is, refused-is, answered-otherwise, refused-eight}
 use Rattle.leaves.specs.Refusing.{NoneHold}
@@ -94,21 +96,21 @@ module _ (c : basic.StoreCall) where
       }
 
 -- ---- the search
-searched-store : (st : State) (s out : List Float) (x : Reply Answer) → searched st s out x .store ≡ s
-searched-store st s out (answered a) = refl
-searched-store st s out (refused k) = refl
+searched-store : (st : State) (s out : List Float) (seen : Ranges) (x : Reply Answer) → searched st s out seen x .store ≡ s
+searched-store st s out seen (answered a) = refl
+searched-store st s out seen (refused k) = refl
 
-searched-state : (st : State) (s out : List Float) (x : Reply Answer) → searched st s out x .state ≡ withHeld st held.Nothing
-searched-state st s out (answered a) = refl
-searched-state st s out (refused k) = refl
+searched-state : (st : State) (s out : List Float) (seen : Ranges) (x : Reply Answer) → searched st s out seen x .state ≡ withHeld st held.Nothing
+searched-state st s out seen (answered a) = refl
+searched-state st s out seen (refused k) = refl
 
-searched-held : (st : State) (h : Held) (s out : List Float) (x : Reply Answer) → searched (withHeld st h) s out x ≡ searched st s out x
-searched-held st h s out (answered a) = refl
-searched-held st h s out (refused k) = refl
+searched-held : (st : State) (h : Held) (s out : List Float) (seen : Ranges) (x : Reply Answer) → searched (withHeld st h) s out seen x ≡ searched st s out seen x
+searched-held st h s out seen (answered a) = refl
+searched-held st h s out seen (refused k) = refl
 
-searched-told : (st : State) (s t out : List Float) (x : Reply Answer) → ToldAlike (ofSearch (searched st s out x)) (ofSearch (searched st t out x))
-searched-told st s t out (answered a) = record { answer = refl; state = refl; out = refl }
-searched-told st s t out (refused k) = record { answer = refl; state = refl; out = refl }
+searched-told : (st : State) (s t out : List Float) (seen : Ranges) (x : Reply Answer) → ToldAlike (ofSearch (searched st s out seen x)) (ofSearch (searched st t out seen x))
+searched-told st s t out seen (answered a) = record { answer = refl; state = refl; out = refl }
+searched-told st s t out seen (refused k) = record { answer = refl; state = refl; out = refl }
 
 -- a slice that is long enough does not decide
 enough : (n a x : ℕ) → n ≤ a → ltb (min a x) n ≡ ltb x n
@@ -148,6 +150,13 @@ module _ (diag : List Float) (radius lambda : Float) (out : List Float) where
   abbrev answers : State → List ℕ → List Float → Reply Answer
   answers st order s = answerOf (asked st order diag radius lambda s out) lambda
 
+  -- what its norms saw
+  abbrev saw : Problem → Ranges
+  saw p = rangesOf (measuredBy p lambda)
+
+  abbrev sees : State → List ℕ → List Float → Ranges
+  sees st order s = saw (asked st order diag radius lambda s out)
+
   abbrev left : State → List Float → List Float
   left st s = lay (emptied (load (st .n) s))
 
@@ -177,7 +186,7 @@ module _ (diag : List Float) (radius lambda : Float) (out : List Float) where
     pub as-zero : perform this st order s .store ≡ basic.performStore (zero st) st order s .store
     unfolding perform basic.performStore
     as-zero =
-        ap (λ (x : Ended LMParameter). x .store) (passed-is st order diag radius lambda s out e) ∙ searched-store st (left st s) out (answers st order s)
+        ap (λ (x : Ended Flagged). x .store) (passed-is st order diag radius lambda s out e) ∙ searched-store st (left st s) out (sees st order s) (answers st order s)
         ∙ sym (zero-left st order s (zeros (st .n)) (rw (length-replicate (st .n) plusZero) is-ready))
 
   -- by the two cases
@@ -190,7 +199,7 @@ module _ (diag : List Float) (radius lambda : Float) (out : List Float) where
       by true e = p (eqb-true (by-tests st order s) 0 e)
       by false e =
           let n = eqb-false (by-tests st order s) 0 e in
-          subst (λ (x : Ended LMParameter). P (ofSearch x)) (sym (refused-is st order diag radius lambda s out n)) (q n)
+          subst (λ (x : Ended Flagged). P (ofSearch x)) (sym (refused-is st order diag radius lambda s out n)) (q n)
 
   search-keeps : (st : State) (order : List ℕ) (s : List Float) → Kept (load (st .n) s) (load (st .n) (perform this st order s .store))
   search-keeps st order s = cases (λ (o : Outcome). Kept (load (st .n) s) (load (st .n) (o .store))) st order s
@@ -202,7 +211,7 @@ module _ (diag : List Float) (radius lambda : Float) (out : List Float) where
 
   after : (st : State) (order : List ℕ) (s : List Float) → by-tests st order s ≡ 0 → perform this st order s .state ≡ withHeld st held.Nothing
   unfolding perform
-  after st order s e = ap (λ (x : Ended LMParameter). x .state) (passed-is st order diag radius lambda s out e) ∙ searched-state st (left st s) out (answers st order s)
+  after st order s e = ap (λ (x : Ended Flagged). x .state) (passed-is st order diag radius lambda s out e) ∙ searched-state st (left st s) out (sees st order s) (answers st order s)
 
   search-sizes : (st : State) (order : List ℕ) (s : List Float) → perform this st order s .state ≡ withHeld st (perform this st order s .state .held)
   search-sizes st order s = cases (λ (o : Outcome). o .state ≡ withHeld st (o .state .held)) st order s
@@ -218,12 +227,12 @@ module _ (diag : List Float) (radius lambda : Float) (out : List Float) where
     search-reads a =
         let same : asked st order diag radius lambda s out ≡ asked st order diag radius lambda t out = rw (a .upper, a .qtb) in
         cases (λ (o : Outcome). ToldAlike o (perform this st order t)) st order s
-        (λ e. subst (λ (x : Ended LMParameter). ToldAlike (ofSearch x) (ofSearch (searchCall st order diag radius lambda t out))) (sym (passed-is st order diag radius lambda s out e))
-        (subst (λ (x : Ended LMParameter). ToldAlike (ofSearch (searched st (left st s) out (answers st order s))) (ofSearch x))
+        (λ e. subst (λ (x : Ended Flagged). ToldAlike (ofSearch x) (ofSearch (searchCall st order diag radius lambda t out))) (sym (passed-is st order diag radius lambda s out e))
+        (subst (λ (x : Ended Flagged). ToldAlike (ofSearch (searched st (left st s) out (sees st order s) (answers st order s))) (ofSearch x))
         (sym (passed-is st order diag radius lambda t out (sym tested-same ∙ e)))
-        (subst (λ (y : Problem). ToldAlike (ofSearch (searched st (left st s) out (answers st order s))) (ofSearch (searched st (left st t) out (answerOf y lambda)))) same
-        (searched-told st (left st s) (left st t) out (answers st order s)))))
-        (λ h. subst (λ (x : Ended LMParameter). ToldAlike (ofSearch (ended (refused (by-tests st order s)) st s out)) (ofSearch x)) (sym (refused-is st order diag radius lambda t out (λ e. h (tested-same ∙ e))))
+        (subst (λ (y : Problem). ToldAlike (ofSearch (searched st (left st s) out (sees st order s) (answers st order s))) (ofSearch (searched st (left st t) out (saw y) (answerOf y lambda)))) same
+        (searched-told st (left st s) (left st t) out (sees st order s) (answers st order s)))))
+        (λ h. subst (λ (x : Ended Flagged). ToldAlike (ofSearch (ended (refused (by-tests st order s)) st s out)) (ofSearch x)) (sym (refused-is st order diag radius lambda t out (λ e. h (tested-same ∙ e))))
         (record { answer = ap (λ (k : ℕ). any.found (refused k)) tested-same; state = refl; out = refl }))
 
     search-settles : Alike (load (st .n) s) (load (st .n) t) → settling this st order s ≡ true
@@ -246,11 +255,11 @@ module _ (diag : List Float) (radius lambda : Float) (out : List Float) where
       let f = solve-passed st (length s) order (st .n) (is-ready st order s e) .room .filled in
       let y : by-tests (withHeld st h) order s ≡ 0 = rw i (rw f at e) in (
         search-settling (withHeld st h) order s ∙ eq-eqb (by-tests (withHeld st h) order s) 0 y,
-        ap ofSearch (passed-is (withHeld st h) order diag radius lambda s out y ∙ searched-held st h (left st s) out (answers st order s) ∙ sym (passed-is st order diag radius lambda s out e)),
+        ap ofSearch (passed-is (withHeld st h) order diag radius lambda s out y ∙ searched-held st h (left st s) out (sees st order s) (answers st order s) ∙ sym (passed-is st order diag radius lambda s out e)),
       )
 
-  abbrev told-by : State → List Float → ℕ → Problem → Ended LMParameter
-  told-by st s k p = elim (eqb k 0) [ true ↦ searched st (left st s) out (answerOf p lambda) | false ↦ ended (refused k) st s out ]
+  abbrev told-by : State → List Float → ℕ → Problem → Ended Flagged
+  told-by st s k p = elim (eqb k 0) [ true ↦ searched st (left st s) out (saw p) (answerOf p lambda) | false ↦ ended (refused k) st s out ]
 
   search-orders : (st : State) (o p : List ℕ) (s : List Float) → st .n ≤ length o → st .n ≤ length p → take (st .n) o ≡ take (st .n) p
       → perform this st o s ≡ perform this st p s

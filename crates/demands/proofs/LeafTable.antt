@@ -10,10 +10,11 @@ use lib.Dec.{eqb, ltb, leb}
 use lib.ListN.{length}
 use lib.Ieee.{Float}
 use borrow.Author.Tests.{eq-eqb, ne-eqb, eqb-false, ltb-true, ltb-false, le-leb, lt-leb}
+use Rattle.leaves.specs.declared.norm.Ranges.{Ranges}
 use Rattle.leaves.specs.Reply.{Reply, answered, refused}
 use Rattle.leaves.specs.Vector.{alike, dotOf, dot, axpyAll, axpy, scaleAll, axpyZero, imax, copy}
 use Rattle.leaves.specs.Triangle.{columns, solveDown, solveUpper}
-use Rattle.leaves.specs.Norm.{norm, enorm}
+use Rattle.leaves.specs.Norm.{norm, ranges, enorm}
 use Rattle.leaves.proofs.Replies.{answered-refused}
 use Rattle.demands.specs.Calls.{replyNumber}
 use Rattle.demands.specs.Workings.{Short, Leaves}
@@ -31,7 +32,7 @@ norm-refused : (xs : List Float) → (enorm xs ≡ refused 2) ↔ (128 < length 
 unfolding enorm
 norm-refused xs = (there, λ h. rw (lt-leb (length xs) 128 h))
   where
-    there : cond (leb (length xs) 128) (answered (norm xs)) (refused 2) ≡ refused 2 → 128 < length xs
+    there : cond {A = Reply (Float × Ranges)} (leb (length xs) 128) (answered (norm xs, ranges xs)) (refused 2) ≡ refused 2 → 128 < length xs
     there h = by (ltb 128 (length xs)) refl
       where
         by : (b : Bool) → ltb 128 (length xs) ≡ b → 128 < length xs
@@ -91,7 +92,7 @@ norm-answered : (xs : List Float) → (128 < length xs → ⊥) → replyNumber 
 unfolding enorm
 norm-answered xs h = by (ltb 128 (length xs)) refl
   where
-    by : (b : Bool) → ltb 128 (length xs) ≡ b → replyNumber (cond (leb (length xs) 128) (answered (norm xs)) (refused 2)) ≡ 0
+    by : (b : Bool) → ltb 128 (length xs) ≡ b → replyNumber (cond {A = Reply (Float × Ranges)} (leb (length xs) 128) (answered (norm xs, ranges xs)) (refused 2)) ≡ 0
     by true e = absurd (h (ltb-true 128 (length xs) e))
     by false e = rw (le-leb (length xs) 128 (ltb-false 128 (length xs) e))
 

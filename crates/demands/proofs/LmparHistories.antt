@@ -14,7 +14,8 @@ use Rattle.factor.specs.declared.state.State.{State}
 use Rattle.search.specs.Search.{searchCall}
 use Rattle.search.specs.Enorm.{minpackEnorm}
 use Rattle.search.specs.Lmpar.{lmpar}
-use Rattle.search.specs.declared.LMParameter.{LMParameter}
+use Rattle.search.specs.Search.{Flagged}
+use Rattle.leaves.specs.declared.norm.Ranges.{Ranges}
 use Rattle.search.proofs.AgainstEnorm.{enorm-is-norm}
 use Rattle.search.proofs.LmparVectors.{Enough}
 use Rattle.search.proofs.LmparCalls.{answers-as-lmpar}
@@ -31,7 +32,7 @@ module _ (m n : ℕ) (jacobian residuals store : List Float) (order : List ℕ) 
   abbrev made : Factored
   made = factorCall m n jacobian residuals store order bench
 
-  module _ (h : made .reply ≡ answered tt) (cs : List Call) where
+  module _ {f : Ranges} (h : made .reply ≡ answered f) (cs : List Call) where
     abbrev after : State × List Float
     after = run perform (made .order) cs (made .state) (made .store)
 
@@ -45,9 +46,9 @@ module _ (m n : ℕ) (jacobian residuals store : List Float) (order : List ℕ) 
         (subst (λ (u : List (List Float)). Enough (made .state .m) (diagonal u)) kept (factored-enough m n jacobian residuals store order bench h)))
 
     -- LAW
-    pub factored-answers-as-lmpar : (unset : Float) (diag : List Float) (radius lambda : Float) (out : List Float) (a : LMParameter)
+    pub factored-answers-as-lmpar : (unset : Float) (diag : List Float) (radius lambda : Float) (out : List Float) (a : Flagged)
         → searchCall (after .0) (made .order) diag radius lambda (after .1) out .reply ≡ answered a
         → lmpar (minpackEnorm unset) dwarf (lentOf (after .0) (made .order) diag radius (after .1)) lambda
-        ≡ record { x = take (after .0 .n) (searchCall (after .0) (made .order) diag radius lambda (after .1) out .out); par = a .lambda; qrsolvs = a .trials }
+        ≡ record { x = take (after .0 .n) (searchCall (after .0) (made .order) diag radius lambda (after .1) out .out); par = a .0 .lambda; qrsolvs = a .0 .trials }
     factored-answers-as-lmpar unset diag radius lambda out a e =
         answers-as-lmpar (after .0) (made .order) diag radius lambda (after .1) out a e (minpackEnorm unset) (enorm-is-norm unset) still-enough

@@ -14,12 +14,12 @@ use Rattle.factor.specs.Solve.{scatter, gather, nonSingular}
 use Rattle.measures.specs.Determined.{determinedOf}
 use Rattle.eliminate.specs.Eliminate.{Rows, heads, tails}
 use Rattle.factor.specs.Held.{heldSolved, heldProduct}
-use Rattle.measures.specs.Gradient.{gradient as measure, jxNorm}
+use Rattle.measures.specs.Gradient.{gradient as measure, jxNorm, jxRanges}
 use Rattle.factor.specs.Outcome.{written}
 use Rattle.factor.specs.Solves.{dampedNumbers}
 use Rattle.measures.specs.Measures.{finiteOr8}
 use Rattle.measures.specs.Rescale.{rescaled}
-use Rattle.demands.specs.Calls.{number, count, truth, scaled, StoreCall, zero-solve, damped-solve, held-solve, held-product, gradient, jx-norm, scaling, determined, non-singular, isStoreSolve}
+use Rattle.demands.specs.Calls.{number, ranged, count, truth, scaled, StoreCall, zero-solve, damped-solve, held-solve, held-product, gradient, jx-norm, scaling, determined, non-singular, isStoreSolve}
 use Rattle.factor.specs.declared.state.Held.{Held}
 use Rattle.factor.specs.declared.state.Held.the-variants as held
 use Rattle.factor.specs.declared.state.State.{State}
@@ -104,7 +104,8 @@ module _ (st : State) (order : List ℕ) (r t : Room) (a : Alike r t) where
       rw (a .norms, a .upper, a .qtb) in
       record { answer = ap (λ (x : Reply Float). number x) e; held = refl; out = refl }
   effect-reads (jx-norm x) h =
-      record { answer = ap (λ (u : List (List Float)). number (finiteOr8 (jxNorm (gather (take (st .n) order) x) u))) (a .upper); held = refl; out = refl }
+      let xs = gather (take (st .n) order) x in
+      record { answer = ap (λ (u : List (List Float)). ranged (finiteOr8 (jxNorm xs u) (jxRanges xs u))) (a .upper); held = refl; out = refl }
   effect-reads (scaling md diag x bound) h = record {
     answer = ap (λ (l : List Float). scaled (rescaled md (st .n) l diag x bound .0)) (a .norms);
     held = refl;

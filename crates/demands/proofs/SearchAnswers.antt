@@ -11,9 +11,12 @@ use lib.ListN.{length, take, drop}
 use lib.Seq.{length-take-le, take-at, drop-at}
 use lib.Ieee.{Float, binary64, sub, lt, le}
 use borrow.Author.Tests.{not-false}
+use Rattle.leaves.specs.declared.norm.Ranges.{Ranges}
+use Rattle.search.specs.Measured.{measuredBy}
+use Rattle.search.specs.declared.LMParameter.{LMParameter}
 use Rattle.leaves.specs.Reply.{Reply, answered, refused}
 use Rattle.leaves.specs.Number.{plusZero, isFinite, absOf}
-use Rattle.leaves.specs.Norm.{norm}
+use Rattle.leaves.specs.Norm.{norm, rangesOf}
 use Rattle.leaves.specs.Product.{productAll}
 use Rattle.leaves.specs.Root.{rootS}
 use Rattle.leaves.specs.Vector.{scaleAll}
@@ -31,9 +34,8 @@ use Rattle.factor.proofs.Passed.{finite-all}
 use Rattle.search.specs.Problem.{Problem, placed, undampedStep, dampedRows, dampedStep, scaledNorm}
 use Rattle.search.specs.Bounds.{band}
 use Rattle.search.specs.Run.{Stop, undamped, ten, within, falling, isWithin, runOf}
-use Rattle.search.specs.Search.{Answer, answerOf, searched, searchCall}
+use Rattle.search.specs.Search.{Flagged, Answer, answerOf, searched, searchCall}
 use Rattle.search.specs.inner.Read.{Ready}
-use Rattle.search.specs.declared.LMParameter.{LMParameter}
 use Rattle.search.proofs.Shapes.{placed-length, zero-length, damped-length, gathered-even}
 use Rattle.search.proofs.Workings.{shaped, order-long}
 use Rattle.search.proofs.Calling.{ready, diag-long}
@@ -45,10 +47,10 @@ use Rattle.search.proofs.Rules.{Undamped, Damped, Answered, answered-rules}
 use Rattle.factor.specs.inner.Rooms.{Shaped}
 use Rattle.leaves.specs.Refusing.{NoneHold}
 
-searched-answers : (st : State) (s out : List Float) (x : Reply Answer) (a : LMParameter) → searched st s out x .reply ≡ answered a
-    → (b : Answer) × ((x ≡ answered b) × ((b .0 ≡ a) × (searched st s out x .out ≡ written (b .1) out)))
-searched-answers st s out (answered b) a h = (b, (refl, (answered-same h, refl)))
-searched-answers st s out (refused k) a h = refused-answered h
+searched-answers : (st : State) (s out : List Float) (seen : Ranges) (x : Reply Answer) (a : Flagged) → searched st s out seen x .reply ≡ answered a
+    → (b : Answer) × ((x ≡ answered b) × ((b .0 ≡ a .0) × (searched st s out seen x .out ≡ written (b .1) out)))
+searched-answers st s out seen (answered b) a h = (b, (refl, (ap (λ (p : Flagged). p .0) (answered-same h), refl)))
+searched-answers st s out seen (refused k) a h = refused-answered h
 
 -- ---- a step has a number for each column
 module _ (st : State) (order : List ℕ) (diag : List Float) (radius : Float) (room : Room) (z : Shaped (st .n) room) (ol : st .n ≤ length order) where
@@ -67,7 +69,7 @@ module _ (st : State) (order : List ℕ) (diag : List Float) (radius : Float) (r
       let l = damping (gather (take (st .n) order) ds) (room .upper) (room .qtb) in
       placed-length (take (st .n) order) (dampedSolved (heads (l .0)) (tails (l .0)) (l .1)) ∙ damped-length (heads (l .0)) (tails (l .0)) (l .1) ∙ gathered-even (st .n) order ds room z ol .1
 
-module _ (st : State) (order : List ℕ) (diag : List Float) (radius lambda : Float) (store out : List Float) (a : LMParameter) where
+module _ (st : State) (order : List ℕ) (diag : List Float) (radius lambda : Float) (store out : List Float) (a : Flagged) where
   abbrev room : Room
   room = load (st .n) store
 
@@ -88,16 +90,16 @@ module _ (st : State) (order : List ℕ) (diag : List Float) (radius lambda : Fl
     is-ready : Ready st store order
     is-ready = ready st store order diag radius lambda out refl all-passed
 
-    the-answer : (b : Answer) × ((answerOf problem-asked lambda ≡ answered b) × ((b .0 ≡ a) × (call st order diag radius lambda store out .out ≡ written (b .1) out)))
+    the-answer : (b : Answer) × ((answerOf problem-asked lambda ≡ answered b) × ((b .0 ≡ a .0) × (call st order diag radius lambda store out .out ≡ written (b .1) out)))
     the-answer =
         let e = passed-is st order diag radius lambda store out all-passed in
-        let r = searched-answers st (lay (emptied room)) out (answerOf problem-asked lambda) a (ap (λ (x : Ended LMParameter). x .reply) (sym e) ∙ h) in
-        (r .0, (r .1 .0, (r .1 .1 .0, ap (λ (x : Ended LMParameter). x .out) e ∙ r .1 .1 .1)))
+        let r = searched-answers st (lay (emptied room)) out (rangesOf (measuredBy problem-asked lambda)) (answerOf problem-asked lambda) a (ap (λ (x : Ended Flagged). x .reply) (sym e) ∙ h) in
+        (r .0, (r .1 .0, (r .1 .1 .0, ap (λ (x : Ended Flagged). x .out) e ∙ r .1 .1 .1)))
 
     abbrev step : List Float
     step = the-answer .0 .1
 
-    rules : Answered problem-asked (runOf problem-asked lambda) (a, step)
+    rules : Answered problem-asked (runOf problem-asked lambda) (a .0, step)
     rules =
         let n = none-held in
         subst (λ (x : LMParameter). Answered problem-asked (runOf problem-asked lambda) (x, step)) (the-answer .1 .1 .0)
@@ -109,9 +111,9 @@ module _ (st : State) (order : List ℕ) (diag : List Float) (radius lambda : Fl
         z : Shaped (st .n) room
         z = shaped st store order is-ready
 
-        by : Undamped problem-asked (runOf problem-asked lambda) (a, step) ⊎ Damped problem-asked (runOf problem-asked lambda) (a, step) → length step ≡ st .n
+        by : Undamped problem-asked (runOf problem-asked lambda) (a .0, step) ⊎ Damped problem-asked (runOf problem-asked lambda) (a .0, step) → length step ≡ st .n
         by (inl u) = ap length (u .step-is) ∙ undamped-long st order diag radius room z (order-long st store order is-ready)
-        by (inr d) = ap length (d .step-is) ∙ damped-long st order diag radius room z (order-long st store order is-ready) (a .lambda)
+        by (inr d) = ap length (d .step-is) ∙ damped-long st order diag radius room z (order-long st store order is-ready) (a .0 .lambda)
 
     written-step : searchCall st order diag radius lambda store out .out ≡ written step out
     written-step = the-answer .1 .1 .1
@@ -124,10 +126,10 @@ module _ (st : State) (order : List ℕ) (diag : List Float) (radius lambda : Fl
     surplus-kept = ap (drop (st .n)) written-step ∙ drop-at step (drop (length step) out) (st .n) step-long ∙ ap (λ (k : ℕ). drop k out) step-long
 
     -- LAW: the norm is that of scaling times step, and finite
-    pub norm-of-step : a .«dp_norm» ≡ norm (productAll (take (st .n) (searchCall st order diag radius lambda store out .out)) (take (st .n) diag))
+    pub norm-of-step : a .0 .«dp_norm» ≡ norm (productAll (take (st .n) (searchCall st order diag radius lambda store out .out)) (take (st .n) diag))
     norm-of-step = rules .norm-is ∙ ap (λ (x : List Float). norm (productAll x (take (st .n) diag))) (sym step-read)
 
-    pub norm-finite : isFinite (a .«dp_norm») ≡ true
+    pub norm-finite : isFinite (a .0 .«dp_norm») ≡ true
     norm-finite = rules .norm-finite
 
     -- LAW: every entry of the step is finite
@@ -137,14 +139,14 @@ module _ (st : State) (order : List ℕ) (diag : List Float) (radius lambda : Fl
         rw step-read (finite-all step (λ i l. norm-products (take (st .n) diag) step (step-long ∙ sym dl) (rw (rules .norm-is) at norm-finite) i l))
 
     -- LAW: and lambda is finite and not below zero
-    pub lambda-finite : isFinite (a .lambda) ≡ true
+    pub lambda-finite : isFinite (a .0 .lambda) ≡ true
     lambda-finite = rules .lambda-finite
 
     abbrev Zero : Type 0
-    Zero = Undamped problem-asked (runOf problem-asked lambda) (a, step)
+    Zero = Undamped problem-asked (runOf problem-asked lambda) (a .0, step)
 
     abbrev Above : Type 0
-    Above = Damped problem-asked (runOf problem-asked lambda) (a, step)
+    Above = Damped problem-asked (runOf problem-asked lambda) (a .0, step)
 
     by-rule : {X : Type 0} → (Zero → X) → (Above → X) → X
     by-rule {X} f g = by (rules .by-rule)
@@ -157,17 +159,17 @@ module _ (st : State) (order : List ℕ) (diag : List Float) (radius lambda : Fl
     unfolding lt
     zero-not-above = refl
 
-    pub lambda-not-below : lt (a .lambda) plusZero ≡ false
-    lambda-not-below = by-rule (λ u. rw (u .lambda-zero) zero-not-above) (λ d. above-not-below (a .lambda) (d .lambda-above))
+    pub lambda-not-below : lt (a .0 .lambda) plusZero ≡ false
+    lambda-not-below = by-rule (λ u. rw (u .lambda-zero) zero-not-above) (λ d. above-not-below (a .0 .lambda) (d .lambda-above))
 
     -- LAW: lambda is zero exactly when the overshoot is at most the computed tenth of the radius; then there is no trial
-    pub lambda-rule : (a .lambda ≡ plusZero) ↔ (le overshoot (band radius) ≡ true)
+    pub lambda-rule : (a .0 .lambda ≡ plusZero) ↔ (le overshoot (band radius) ≡ true)
     lambda-rule = (
       λ e. by-rule (λ u. u .taken) (λ d. absurd (true≢false (sym (d .lambda-above) ∙ ap (λ (x : Float). lt plusZero x) e ∙ zero-not-above))),
       λ w. by-rule (λ u. u .lambda-zero) (λ d. absurd (true≢false (sym w ∙ d .not-taken))),
     )
 
-    pub no-trial : le overshoot (band radius) ≡ true → a .trials ≡ 0
+    pub no-trial : le overshoot (band radius) ≡ true → a .0 .trials ≡ 0
     no-trial w = by-rule (λ u. u .no-trial) (λ d. absurd (true≢false (sym w ∙ d .not-taken)))
 
     -- LAW: otherwise lambda is above zero after one to ten trials, and fewer than ten only for a stop rule
@@ -175,29 +177,29 @@ module _ (st : State) (order : List ℕ) (diag : List Float) (radius lambda : Fl
     by-stop-rule = (ends st order diag radius lambda store out ≡ inl within) ⊎ (ends st order diag radius lambda store out ≡ inl falling)
 
     pub trial-rule : le overshoot (band radius) ≡ false
-        → (lt plusZero (a .lambda) ≡ true) × ((1 ≤ a .trials) × ((a .trials ≤ 10) × (a .trials < 10 → by-stop-rule)))
+        → (lt plusZero (a .0 .lambda) ≡ true) × ((1 ≤ a .0 .trials) × ((a .0 .trials ≤ 10) × (a .0 .trials < 10 → by-stop-rule)))
     trial-rule w = by-rule (λ u. absurd (true≢false (sym (u .taken) ∙ w))) (λ d. by (d .lambda-above) (d .rule) (d .stopped-by) (d .counted))
       where
-        by : lt plusZero (a .lambda) ≡ true → (x : Stop) → ends st order diag radius lambda store out ≡ inl x → Counted 9 (a .trials) x
-            → (lt plusZero (a .lambda) ≡ true) × ((1 ≤ a .trials) × ((a .trials ≤ 10) × (a .trials < 10 → by-stop-rule)))
+        by : lt plusZero (a .0 .lambda) ≡ true → (x : Stop) → ends st order diag radius lambda store out ≡ inl x → Counted 9 (a .0 .trials) x
+            → (lt plusZero (a .0 .lambda) ≡ true) × ((1 ≤ a .0 .trials) × ((a .0 .trials ≤ 10) × (a .0 .trials < 10 → by-stop-rule)))
         by l undamped e c = absurd c
         by l ten e c = (l, (omega arith, (omega arith, λ f. absurd (omega arith))))
         by l within e c = (l, (c .0, (omega (arith, c .1), λ f. inl e)))
         by l falling e c = (l, (c .0, (omega (arith, c .1), λ f. inr e)))
 
-    pub trials-few : a .trials ≤ 10
+    pub trials-few : a .0 .trials ≤ 10
     trials-few = by (le overshoot (band radius)) refl
       where
-        by : (b : Bool) → le overshoot (band radius) ≡ b → a .trials ≤ 10
+        by : (b : Bool) → le overshoot (band radius) ≡ b → a .0 .trials ≤ 10
         by true e = let z = no-trial e in omega arith
         by false e = trial-rule e .1 .1 .0
 
     -- LAW: the last of them takes two trials at least
-    pub falling-later : ends st order diag radius lambda store out ≡ inl falling → 2 ≤ a .trials
+    pub falling-later : ends st order diag radius lambda store out ≡ inl falling → 2 ≤ a .0 .trials
     falling-later e = subst (λ (k : ℕ). 2 ≤ k) (sym (rules .counts)) (falling-not-first problem-asked lambda e)
 
     -- LAW: by the first of them the scaled norm is within a tenth of the radius of it
-    pub within-band : ends st order diag radius lambda store out ≡ inl within → le (absOf (sub binary64 (a .«dp_norm») radius)) (band radius) ≡ true
+    pub within-band : ends st order diag radius lambda store out ≡ inl within → le (absOf (sub binary64 (a .0 .«dp_norm») radius)) (band radius) ≡ true
     unfolding isWithin
     within-band e =
         by-rule (λ u. absurd (true≢false (ap starts (stop-same undamped within (sym (u .stopped-by) ∙ e))))) (λ d. d .by-within (stop-same (d .rule) within (sym (d .stopped-by) ∙ e)))

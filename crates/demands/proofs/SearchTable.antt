@@ -11,6 +11,9 @@ use lib.Dec.{eqb, ltb}
 use lib.ListN.{length, take}
 use lib.Ieee.{Float}
 use borrow.Author.Tests.{eqb-true, eqb-false}
+use Rattle.leaves.specs.Norm.{rangesOf}
+use Rattle.leaves.specs.declared.norm.Ranges.{Ranges}
+use Rattle.search.specs.Measured.{measuredBy}
 use Rattle.leaves.specs.Reply.{Reply, answered, refused}
 use Rattle.factor.specs.State.{isEmpty, withHeld, storeNeed}
 use Rattle.leaves.specs.Tests.{outside, Test, firstOf, noneZero}
@@ -24,9 +27,8 @@ use Rattle.leaves.proofs.Refusals.{refused-iff, passed-iff, call-worked}
 use Rattle.search.specs.Problem.{Problem}
 use Rattle.search.specs.Run.{Run, Stop, Place, stopped, last, trial, runOf}
 use Rattle.search.specs.Run as run
-use Rattle.search.specs.Search.{Answer, concluded, answerOf, problemOf, searchTests, searched, searchCall}
+use Rattle.search.specs.Search.{Flagged, Answer, concluded, answerOf, problemOf, searchTests, searched, searchCall}
 use Rattle.search.specs.Ending.{ending}
-use Rattle.search.specs.declared.LMParameter.{LMParameter}
 use Rattle.search.proofs.Calling.{call-is-refused}
 use Rattle.leaves.specs.Refusing.{NoneHold, RefusedBy}
 use Rattle.demands.proofs.TestNumbers.{first-small}
@@ -43,13 +45,13 @@ concluded-number k a (run.refused p) = refl
 concluded-number k a (last t r) = concluded-number _ _ r
 concluded-number k a (trial t fp r) = concluded-number _ _ r
 
-searched-number : (st : State) (s out : List Float) (x : Reply Answer) → replyNumber (searched st s out x .reply) ≡ replyNumber x
-searched-number st s out (answered a) = refl
-searched-number st s out (refused k) = refl
+searched-number : (st : State) (s out : List Float) (seen : Ranges) (x : Reply Answer) → replyNumber (searched st s out seen x .reply) ≡ replyNumber x
+searched-number st s out seen (answered a) = refl
+searched-number st s out seen (refused k) = refl
 
-refused-searched : (st : State) (s out : List Float) (x : Reply Answer) → replyNumber x ≡ 8 → searched st s out x ≡ ended (refused 8) (withHeld st held.Nothing) s out
-refused-searched st s out (answered a) h = absurd (omega arith)
-refused-searched st s out (refused k) h = ap (λ (j : ℕ). ended (refused j) (withHeld st held.Nothing) s out) h
+refused-searched : (st : State) (s out : List Float) (seen : Ranges) (x : Reply Answer) → replyNumber x ≡ 8 → searched st s out seen x ≡ ended (refused 8) (withHeld st held.Nothing) s out
+refused-searched st s out seen (answered a) h = absurd (omega arith)
+refused-searched st s out seen (refused k) h = ap (λ (j : ℕ). ended (refused j) (withHeld st held.Nothing) s out) h
 
 by-place : (e : Stop ⊎ Place) → endNumber e ≡ 8 → (p : Place) × (e ≡ inr p)
 by-place (inl s) h = absurd (omega arith)
@@ -73,7 +75,7 @@ module _ (st : State) (order : List ℕ) (diag : List Float) (radius lambda : Fl
   abbrev pub asked : Problem
   asked = problemOf st order diag radius (load (st .n) store)
 
-  abbrev pub call : Ended LMParameter
+  abbrev pub call : Ended Flagged
   call = searchCall st order diag radius lambda store out
 
   abbrev pub given : ℕ
@@ -83,7 +85,7 @@ module _ (st : State) (order : List ℕ) (diag : List Float) (radius lambda : Fl
   ends = ending (runOf asked lambda)
 
   -- ---- one outcome by its two cases
-  pub passed-is : tested ≡ 0 → call ≡ searched st (lay (emptied (load (st .n) store))) out (answerOf asked lambda)
+  pub passed-is : tested ≡ 0 → call ≡ searched st (lay (emptied (load (st .n) store))) out (rangesOf (measuredBy asked lambda)) (answerOf asked lambda)
   unfolding searchCall
   passed-is e = sym (call-worked _ (λ k. ended (refused k) st store out) _ e)
 
@@ -96,10 +98,10 @@ module _ (st : State) (order : List ℕ) (diag : List Float) (radius lambda : Fl
   answer-number = concluded-number 0 _ (runOf asked lambda)
 
   passed-number : tested ≡ 0 → given ≡ endNumber ends
-  passed-number e = ap (λ (x : Ended LMParameter). replyNumber (x .reply)) (passed-is e) ∙ searched-number st _ out (answerOf asked lambda) ∙ answer-number
+  passed-number e = ap (λ (x : Ended Flagged). replyNumber (x .reply)) (passed-is e) ∙ searched-number st _ out _ (answerOf asked lambda) ∙ answer-number
 
   stopped-number : (tested ≡ 0 → ⊥) → given ≡ tested
-  stopped-number h = ap (λ (x : Ended LMParameter). replyNumber (x .reply)) (refused-is h)
+  stopped-number h = ap (λ (x : Ended Flagged). replyNumber (x .reply)) (refused-is h)
 
   tested-small : tested < 8
   tested-small = first-small tests refl
@@ -141,7 +143,7 @@ module _ (st : State) (order : List ℕ) (diag : List Float) (radius lambda : Fl
   pub eight-whole : given ≡ 8 → call ≡ ended (refused 8) (withHeld st held.Nothing) (lay (emptied (load (st .n) store))) out
   eight-whole h =
       let w = refused-eight .0 h in
-      passed-is (met-none (w .0)) ∙ refused-searched st _ out (answerOf asked lambda) (answer-number ∙ ap endNumber (w .1 .1))
+      passed-is (met-none (w .0)) ∙ refused-searched st _ out _ (answerOf asked lambda) (answer-number ∙ ap endNumber (w .1 .1))
 
   -- LAW: answered
   pub answered-otherwise : (given ≡ 0) ↔ (NoneHold tests × ((s : Stop) × (ends ≡ inl s)))

@@ -12,7 +12,7 @@ use lib.Ieee.{Float, nan, inf, fin, binary64, up, down, mul, lt, le, eq}
 use borrow.Author.Tests.{le-ltb, not-true}
 use Rattle.leaves.specs.Reply.{Reply, answered, refused}
 use Rattle.leaves.specs.Number.{plusZero, one, isFinite, isNegative}
-use Rattle.leaves.specs.Norm.{norm}
+use Rattle.leaves.specs.Norm.{norm, ranges}
 use Rattle.leaves.specs.Product.{productAll}
 use Rattle.leaves.specs.Square.{zeros}
 use Rattle.leaves.specs.Tests.{allFinite, noneZero}
@@ -34,8 +34,7 @@ use Rattle.measures.specs.Rescale.{Scaled, first, orRefused, scalingTests, resc
 use Rattle.measures.specs.declared.scaling.Start.{Start}
 use Rattle.measures.specs.declared.scaling.Mode.the-variants as mode
 use Rattle.search.specs.Run.{Stop, Place}
-use Rattle.search.specs.Search.{searchTests, searchCall}
-use Rattle.search.specs.declared.LMParameter.{LMParameter}
+use Rattle.search.specs.Search.{Flagged, searchTests, searchCall}
 use Rattle.search.proofs.Signs.{Signed, not-below, above-sign, clear-above, times-signed}
 use Rattle.sheet.specs.Sheet.{Task, search, start}
 use Rattle.sheet.specs.Fit.{Fit, searched, started, Finished, finished, mapped, bySearch, byDetermined, soughtFrom, byScaling, startedFrom, taskFrom}
@@ -102,10 +101,10 @@ shorter : (st : State) (store shortest k : ℕ) → Passed st store shortest →
 shorter st store shortest k p l = record { filled = p .filled; sizes = p .sizes; store-long = p .store-long; each-long = l }
 
 -- ---- determined, then the search
-search-ends : (n d : ℕ) (r : Reply LMParameter) (out step : List Float) → (replyNumber r ≡ 0) ⊎ ((r ≡ refused 8) × (out ≡ step)) → Ends step (bySearch n d r out)
+search-ends : (n d : ℕ) (r : Reply Flagged) (out step : List Float) → (replyNumber r ≡ 0) ⊎ ((r ≡ refused 8) × (out ≡ step)) → Ends step (bySearch n d r out)
 search-ends n d (answered p) out step h = inl refl
 search-ends n d (refused k) out step (inl z) = inl z
-search-ends n d (refused k) out step (inr e) = inr (ap (λ (x : Reply LMParameter). bySearch n d x out) (e .0) ∙ ap (finished (refused 8)) (e .1))
+search-ends n d (refused k) out step (inr e) = inr (ap (λ (x : Reply Flagged). bySearch n d x out) (e .0) ∙ ap (finished (refused 8)) (e .1))
 
 mapped-number : (f : Fitted → Fit) (r : Reply Fitted) → replyNumber (mapped f r) ≡ replyNumber r
 mapped-number f (answered a) = refl
@@ -133,14 +132,14 @@ module _ (st : State) (order : List ℕ) (step : List Float) where
     searched-ends : (n d : ℕ) → (let e = searchCall st order diag radius lambda store step in Ends step (bySearch n d (e .reply) (e .out)))
     searched-ends n d = by (table.ends st order diag radius lambda store step) refl
       where
-        e : Ended LMParameter
+        e : Ended Flagged
         e = searchCall st order diag radius lambda store step
 
         by : (x : Stop ⊎ Place) → table.ends st order diag radius lambda store step ≡ x → Ends step (bySearch n d (e .reply) (e .out))
         by (inl x) h = search-ends n d (e .reply) (e .out) step (inl (table.answered-otherwise st order diag radius lambda store step .1 (search-free, (x, h))))
         by (inr x) h =
             let w = table.eight-whole st order diag radius lambda store step (table.refused-eight st order diag radius lambda store step .1 (search-free, (x, h))) in
-            search-ends n d (e .reply) (e .out) step (inr (ap (λ (z : Ended LMParameter). z .reply) w, ap (λ (z : Ended LMParameter). z .out) w))
+            search-ends n d (e .reply) (e .out) step (inr (ap (λ (z : Ended Flagged). z .reply) w, ap (λ (z : Ended Flagged). z .out) w))
 
   module _ (store : List Float) (o : Lent store) where
     determined-is : determinedCall st store ≡ outcome.told (answered (determinedOf (st .m) (load (st .n) store .upper))) st (lay (rested (load (st .n) store)))
@@ -214,7 +213,7 @@ module _ (st : State) (order : List ℕ) (step : List Float) where
           }
 
       rescaled-ends : (b : Bool) → (allFinite entries && usable begins) ≡ b
-          → (let g = orRefused b (first begins) (written entries (zeros 16)) (zeros 16) in Ends step (byScaling st order (g .0) (g .1) (lay (rested (load (st .n) store))) step))
+          → (let g = orRefused b (first begins (ranges (productAll entries (take (st .n) x)))) (written entries (zeros 16)) (zeros 16) in Ends step (byScaling st order (g .0) (g .1) (lay (rested (load (st .n) store))) step))
       rescaled-ends true e =
           let w = and-eq-true-iff (allFinite entries) (usable begins) .0 e in
           let s = lay (rested (load (st .n) store)) in

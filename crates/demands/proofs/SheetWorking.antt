@@ -6,9 +6,13 @@ use mathlib.Core.List.{List}
 use mathlib.Core.Logic.{_⊎_, inl, inr}
 use Prim.Native.Nat.{ℕ, _*_, _≤_}
 use native.Mathlib.Omega.{arith}
-use lib.ListN.{length, replicate, length-replicate}
+use lib.ListN.{length, take, replicate, length-replicate}
 use lib.Ieee.{Float}
 use borrow.Author.Tests.{le-ltb}
+use Rattle.leaves.specs.declared.norm.Ranges.{Ranges}
+use Rattle.leaves.specs.Norm.{rangesOf}
+use Rattle.leaves.specs.Triangle.{columns}
+use Rattle.reduce.specs.Reduction.{measured}
 use Rattle.leaves.specs.Reply.{Reply, answered, refused}
 use Rattle.leaves.specs.Number.{plusZero}
 use Rattle.leaves.specs.Square.{zeros}
@@ -29,10 +33,10 @@ use Rattle.demands.proofs.SheetSeeking.{Ends, task-ends}
 use Rattle.leaves.specs.Refusing.{NoneHold}
 
 -- ---- the factoring, in rooms for the largest problem
-factored-ends : (task : Task) (step : List Float) (f : Factored) → (f .reply ≡ answered tt → Ends step (taskFrom task (f .state) (f .order) (f .store) step))
-    → (f .reply ≡ answered tt) ⊎ (f .reply ≡ refused 8) → Ends step (byFactoring task (f .reply) (f .state) (f .order) (f .store) step)
-factored-ends task step f g (inl e) = subst (λ (r : Reply (Unit {0})). Ends step (byFactoring task r (f .state) (f .order) (f .store) step)) (sym e) (g e)
-factored-ends task step f g (inr e) = subst (λ (r : Reply (Unit {0})). Ends step (byFactoring task r (f .state) (f .order) (f .store) step)) (sym e) (inr refl)
+factored-ends : (task : Task) (step : List Float) (f : Factored) (seen : Ranges) → (f .reply ≡ answered seen → Ends step (taskFrom task (f .state) (f .order) (f .store) step))
+    → (f .reply ≡ answered seen) ⊎ (f .reply ≡ refused 8) → Ends step (byFactoring task (f .reply) (f .state) (f .order) (f .store) step)
+factored-ends task step f seen g (inl e) = subst (λ (r : Reply Ranges). Ends step (byFactoring task r (f .state) (f .order) (f .store) step)) (sym e) (g e)
+factored-ends task step f seen g (inr e) = subst (λ (r : Reply Ranges). Ends step (byFactoring task r (f .state) (f .order) (f .store) step)) (sym e) (inr refl)
 
 module _ (j : Job) (step : List Float) (w : Workable j (length step)) where
   abbrev store : List Float
@@ -66,14 +70,18 @@ module _ (j : Job) (step : List Float) (w : Workable j (length step)) where
         ),
       )
 
+  -- of every norm that it works out
+  abbrev flags : Ranges
+  flags = rangesOf (measured (j .m) (j .n) (columns (j .m) (j .n) (j .jacobian)) (take (j .m) (j .residuals)))
+
   -- its two ends
-  factor-either : (call .reply ≡ answered tt) ⊎ (call .reply ≡ refused 8)
+  factor-either : (call .reply ≡ answered flags) ⊎ (call .reply ≡ refused 8)
   factor-either = by (finiteRoom room) refl
     where
       room : Room
       room = factoring.room (j .m) (j .n) (j .jacobian) (j .residuals) store order bench
 
-      by : (b : Bool) → finiteRoom room ≡ b → (call .reply ≡ answered tt) ⊎ (call .reply ≡ refused 8)
+      by : (b : Bool) → finiteRoom room ≡ b → (call .reply ≡ answered flags) ⊎ (call .reply ≡ refused 8)
       by true e =
           inl (ap (λ (f : Factored). f .reply) (factoring.answered-whole (j .m) (j .n) (j .jacobian) (j .residuals) store order bench
           (factoring.answered-otherwise (j .m) (j .n) (j .jacobian) (j .residuals) store order bench .1 (factor-free, e))))
@@ -82,7 +90,7 @@ module _ (j : Job) (step : List Float) (w : Workable j (length step)) where
           (factoring.refused-eight (j .m) (j .n) (j .jacobian) (j .residuals) store order bench .1 (factor-free, e))))
 
   -- what an answered one leaves passes the tests of a solve
-  factor-ordered : call .reply ≡ answered tt → Ordered (call .state) (length (call .store)) (call .order) (length step)
+  factor-ordered : call .reply ≡ answered flags → Ordered (call .state) (length (call .store)) (call .order) (length step)
   factor-ordered h =
       let e = sym (answered-state (j .m) (j .n) (j .jacobian) (j .residuals) store order bench h) in
       let r = refactored (j .m) (j .n) (j .jacobian) (j .residuals) store store order order bench bench h h in
@@ -99,10 +107,10 @@ module _ (j : Job) (step : List Float) (w : Workable j (length step)) where
         permuted = subst (λ (s : State). isPermutation (s .n) (call .order) ≡ true) e p;
       }
 
-  factor-asked : call .reply ≡ answered tt → Asked (call .state .n) (j .task)
+  factor-asked : call .reply ≡ answered flags → Asked (call .state .n) (j .task)
   factor-asked h = subst (λ (s : State). Asked (s .n) (j .task)) (sym (answered-state (j .m) (j .n) (j .jacobian) (j .residuals) store order bench h)) (w .asked)
 
   -- LAW: the working is answered, or refused 8 and the step as it came
   pub worked-ends : Ends step (worked j step)
   unfolding worked workedIn
-  worked-ends = factored-ends (j .task) step call (λ h. task-ends (call .state) (call .order) step (call .store) (factor-ordered h) (j .task) (factor-asked h)) factor-either
+  worked-ends = factored-ends (j .task) step call flags (λ h. task-ends (call .state) (call .order) step (call .store) (factor-ordered h) (j .task) (factor-asked h)) factor-either

@@ -11,6 +11,7 @@ use lib.Dec.{eqb, ltb}
 use lib.ListN.{length, take}
 use lib.Ieee.{Float, isNan}
 use borrow.Author.Tests.{eqb-true, eqb-false}
+use Rattle.leaves.specs.declared.norm.Ranges.{Ranges}
 use Rattle.leaves.specs.Reply.{Reply, answered, refused}
 use Rattle.leaves.specs.Number.{plusZero, maxOf, isFinite}
 use Rattle.leaves.specs.Norm.{norm}
@@ -33,7 +34,7 @@ use Rattle.demands.proofs.Effects.{Effect, effect, finiteOr, testedOf}
 use Rattle.demands.proofs.Leavings.{tests-numbered, passed-is, refused-is}
 use Rattle.leaves.specs.Refusing.{NoneHold, RefusedBy}
 use Rattle.demands.specs.Refusals.{storeRefusal, refusedAs, shortestOf, furtherOf, storeTests}
-use Rattle.demands.specs.Eight.{zeroX, dampedL, topOf, anyNan, measured, storeBreaks}
+use Rattle.demands.specs.Eight.{zeroX, dampedL, topOf, anyNan, columnMeasures, storeBreaks}
 use Rattle.demands.proofs.TestNumbers.{small, first-small}
 
 -- ---- 8, call by call
@@ -50,10 +51,10 @@ finite-number x e f p q = by (allFinite x)
     by true = p
     by false = q
 
-or8-number : (x : Float) → replyNumber (finiteOr8 x) ≡ eightIf (not (isFinite x))
-or8-number x = by (isFinite x)
+or8-number : (x : Float) (seen : Ranges) → replyNumber (finiteOr8 x seen) ≡ eightIf (not (isFinite x))
+or8-number x seen = by (isFinite x)
   where
-    by : (b : Bool) → (let g : Reply Float = elim b [ true ↦ answered x | false ↦ refused 8 ] in replyNumber g ≡ eightIf (not b))
+    by : (b : Bool) → (let g : Reply (Float × Ranges) = elim b [ true ↦ answered (x, seen) | false ↦ refused 8 ] in replyNumber g ≡ eightIf (not b))
     by true = refl
     by false = refl
 
@@ -82,8 +83,8 @@ effect-number (zero-solve out) st order r = finite-number (zeroX st r) _ _ refl 
 effect-number (damped-solve diag out) st order r = finite-number (dampedNumbers (dampedL st order diag r)) _ _ refl refl
 effect-number (held-solve rhs out) st order r = finite-number (heldSolved (st .held) (gather (take (st .n) order) rhs) r) _ _ refl refl
 effect-number (held-product out) st order r = finite-number (heldProduct (st .held) r) _ _ refl refl
-effect-number (gradient bnorm) st order r = largest-number plusZero (measured st order bnorm r)
-effect-number (jx-norm x) st order r = or8-number (jxNorm (gather (take (st .n) order) x) (r .upper))
+effect-number (gradient bnorm) st order r = largest-number plusZero (columnMeasures st order bnorm r)
+effect-number (jx-norm x) st order r = or8-number (jxNorm (gather (take (st .n) order) x) (r .upper)) _
 effect-number (scaling mode.FirstScaled diag x bound) st order r =
     let d = firstScaling (r .norms) in
     rescaled-number (allFinite d && usable (startBy bound (norm (productAll d (take (st .n) x))))) _ _ _

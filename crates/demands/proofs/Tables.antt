@@ -10,7 +10,8 @@ use lib.Dec.{eqb}
 use lib.ListN.{length, take}
 use lib.Ieee.{Float}
 use borrow.Author.Tests.{eqb-true, eq-eqb}
-use Rattle.leaves.specs.Norm.{norm}
+use Rattle.leaves.specs.Norm.{norm, ranges, neither}
+use Rattle.leaves.specs.declared.norm.Ranges.{Ranges}
 use Rattle.leaves.specs.Product.{productAll}
 use Rattle.leaves.specs.Reply.{Reply, answered, refused}
 use Rattle.factor.specs.Room.{Room, load, lay, leaving, rested}
@@ -64,9 +65,9 @@ unfolding rescaled
 rescaled-eight mode.FirstScaled n norms diag x bound h =
     let d = firstScaling norms in
     let t = startBy bound (norm (productAll d (take n x))) in
-    scaled-eight (allFinite d && usable t) (first t) (written d diag) diag h
-rescaled-eight mode.FirstUnscaled n norms diag x bound h = let t = startBy bound (norm (take n x)) in scaled-eight (usable t) (first t) diag diag h
-rescaled-eight mode.LaterScaled n norms diag x bound h = let d = laterScaling norms (take n diag) in scaled-eight (allFinite d) later (written d diag) diag h
+    scaled-eight (allFinite d && usable t) (first t (ranges (productAll d (take n x)))) (written d diag) diag h
+rescaled-eight mode.FirstUnscaled n norms diag x bound h = let t = startBy bound (norm (take n x)) in scaled-eight (usable t) (first t (ranges (take n x))) diag diag h
+rescaled-eight mode.LaterScaled n norms diag x bound h = let d = laterScaling norms (take n diag) in scaled-eight (allFinite d) (later neither) (written d diag) diag h
 rescaled-eight mode.LaterUnscaled n norms diag x bound h = absurd (omega arith)
 
 module _ (st : State) (order : List ℕ) (s : List Float) where
@@ -86,7 +87,7 @@ module _ (st : State) (order : List ℕ) (s : List Float) where
   effect-eight (basic.held-solve rhs out) h = either st s (heldSolved (st .held) (gather (take (st .n) order) rhs) room) _ _ _ refl refl h
   effect-eight (basic.held-product out) h = either st s (heldProduct (st .held) room) _ _ _ refl refl h
   effect-eight (basic.gradient bnorm) h = ap (λ (x : Reply Float). basic.storeOutcome (basic.number x) st (lay (rested room)) []) (by-eight _ h)
-  effect-eight (basic.jx-norm x) h = ap (λ (x : Reply Float). basic.storeOutcome (basic.number x) st (lay (rested room)) []) (by-eight _ h)
+  effect-eight (basic.jx-norm x) h = ap (λ (x : Reply (Float × Ranges)). basic.storeOutcome (basic.ranged x) st (lay (rested room)) []) (by-eight _ h)
   effect-eight (basic.scaling md diag x bound) h = scaled-left (rescaled md (st .n) (room .norms) diag x bound) diag (rescaled-eight md (st .n) (room .norms) diag x bound h)
   effect-eight basic.determined h = absurd (omega arith)
   effect-eight basic.non-singular h = absurd (omega arith)

@@ -18,7 +18,8 @@ use borrow.Fn.World.{ArgsD}
 use denote.Triple.Entry.{Args}
 use borrow.Fn.Kinds.{endedOf}
 use denote.Triple.Clauses.{AtExit}
-use Rattle.leaves.specs.Reply.{doneOf, valueOf, placeOf}
+use Rattle.leaves.specs.Reply.{doneOf, placeOf, rangedOf, measuredOf}
+use Rattle.leaves.specs.declared.norm.Ranges.{Ranges}
 use Rattle.factor.specs.Answers.{truthOf}
 use Rattle.measures.specs.Answers.{gradientOf, scalingOf}
 use Rattle.factor.specs.Outcome as calls
@@ -26,9 +27,10 @@ use Rattle.factor.specs.Factoring.{factored, factorCall}
 use Rattle.leaves.specs.declared.reply.Done.{Done}
 use Rattle.measures.specs.Rescale.{Scaled}
 use Rattle.demands.specs.Calls as basic
+use Rattle.factor.specs.declared.state.FactorTold.{FactorTold}
 use Rattle.factor.specs.declared.state.Told.{Told}
 use Rattle.measures.specs.declared.measures.GradientTold.{GradientTold}
-use Rattle.measures.specs.declared.measures.ValueTold.{ValueTold}
+use Rattle.measures.specs.declared.measures.MeasuredTold.{MeasuredTold}
 use Rattle.measures.specs.declared.measures.PlaceTold.{PlaceTold}
 use Rattle.measures.specs.declared.measures.TruthTold.{TruthTold}
 use Rattle.measures.specs.declared.update_diag.ScalingTold.{ScalingTold}
@@ -176,10 +178,10 @@ pub max-a-t-b-scaled-is : (κs : Lfts 2) (a : ArgsD max-a-t-b-scaled-signature �
 unfolding perform basic.performStore
 max-a-t-b-scaled-is κs a r s p = ap (λ (e : calls.Told Float). ofBase (basic.ofTold basic.number e)) p
 
-pub a-x-norm-is : (κs : Lfts 3) (a : ArgsD a-x-norm-signature κs) (r : ValueTold) (s : AtExit (endedOf 3 a-x-norm-kinds.ps a-x-norm-kinds.r) κs) → a-x-norm.Post κs a r s
-    → leftAs (of-base (basic.number (valueOf (r .answer)))) (r .state) (now (s .1 .0)) [] ≡ perform (base (basic.jx-norm (now (a .1 .1 .1 .0)))) (a .0) (now (a .1 .1 .0)) (now (a .1 .0))
+pub a-x-norm-is : (κs : Lfts 3) (a : ArgsD a-x-norm-signature κs) (r : MeasuredTold) (s : AtExit (endedOf 3 a-x-norm-kinds.ps a-x-norm-kinds.r) κs) → a-x-norm.Post κs a r s
+    → leftAs (of-base (basic.ranged (measuredOf (r .answer)))) (r .state) (now (s .1 .0)) [] ≡ perform (base (basic.jx-norm (now (a .1 .1 .1 .0)))) (a .0) (now (a .1 .1 .0)) (now (a .1 .0))
 unfolding perform basic.performStore
-a-x-norm-is κs a r s p = ap (λ (e : calls.Told Float). ofBase (basic.ofTold basic.number e)) p
+a-x-norm-is κs a r s p = ap (λ (e : calls.Told (Float × Ranges)). ofBase (basic.ofTold basic.ranged e)) p
 
 pub update-diag-is : (κs : Lfts 3) (a : ArgsD update-diag-signature κs) (r : ScalingTold) (s : AtExit (endedOf 3 update-diag-kinds.ps update-diag-kinds.r) κs) (order : List ℕ) → update-diag.Post κs a r s
     → leftAs (of-base (basic.scaled (scalingOf (r .answer)))) (r .state) (now (s .1 .0)) (now (s .1 .1 .1 .0)) ≡ perform (base (basic.scaling (a .1 .1 .0) (now (a .1 .1 .1 .0)) (now (a .1 .1 .1 .1 .0)) (a .1 .1 .1 .1 .1 .0))) (a .0) order (now (a .1 .0))
@@ -203,8 +205,8 @@ unfolding perform
 determine-lambda-and-parameter-update-is κs a r s p = ap ofSearch p
 
 -- ---- factoring
-pub pivoted-qr-is : (κs : Lfts 5) (a : ArgsD pivoted-qr-signature κs) (r : Told) (s : AtExit (endedOf 5 pivoted-qr-kinds.ps pivoted-qr-kinds.r) κs) → pivoted-qr.Post κs a r s
-    → factored (doneOf (r .answer)) (r .state) (now (s .1 .1 .1 .1 .0)) (now (s .1 .1 .1 .1 .1 .0)) (now (s .1 .1 .1 .1 .1 .1 .0))
+pub pivoted-qr-is : (κs : Lfts 5) (a : ArgsD pivoted-qr-signature κs) (r : FactorTold) (s : AtExit (endedOf 5 pivoted-qr-kinds.ps pivoted-qr-kinds.r) κs) → pivoted-qr.Post κs a r s
+    → factored (rangedOf (r .answer)) (r .state) (now (s .1 .1 .1 .1 .0)) (now (s .1 .1 .1 .1 .1 .0)) (now (s .1 .1 .1 .1 .1 .1 .0))
     ≡ factorCall (a .0) (a .1 .0) (now (a .1 .1 .0)) (now (a .1 .1 .1 .0)) (now (a .1 .1 .1 .1 .0)) (now (a .1 .1 .1 .1 .1 .0)) (now (a .1 .1 .1 .1 .1 .1 .0))
 pivoted-qr-is κs a r s p = p
 

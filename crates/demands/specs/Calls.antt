@@ -6,6 +6,7 @@ use mathlib.Core.Bool.{Bool, true, false, cond}
 use mathlib.Core.List.{List, [], _∷_}
 use lib.Ieee.{Float}
 use Rattle.leaves.specs.Reply.{Reply, answered, refused}
+use Rattle.leaves.specs.declared.norm.Ranges.{Ranges}
 use Rattle.factor.specs.Outcome.{Told, Ended}
 use Rattle.factor.specs.Solves.{zeroCall, dampedCall}
 use Rattle.factor.specs.HeldCalls.{solveCall, mulCall}
@@ -14,10 +15,11 @@ use Rattle.measures.specs.Rescale.{Scaled, scalingCall}
 use Rattle.factor.specs.declared.state.State.{State}
 use Rattle.measures.specs.declared.scaling.Mode.{Mode}
 
--- an answer of any call
+-- an answer of any call; the flags of #106 belong to it
 pub data StoreAnswer : Type 0 where
   done : Reply (Unit {0}) → StoreAnswer
   number : Reply Float → StoreAnswer
+  ranged : Reply (Float × Ranges) → StoreAnswer
   count : Reply ℕ → StoreAnswer
   truth : Reply Bool → StoreAnswer
   scaled : Reply Scaled → StoreAnswer
@@ -30,6 +32,7 @@ replyNumber (refused k) = k
 abbrev pub storeNumber : StoreAnswer → ℕ
 storeNumber (done r) = replyNumber r
 storeNumber (number r) = replyNumber r
+storeNumber (ranged r) = replyNumber r
 storeNumber (count r) = replyNumber r
 storeNumber (truth r) = replyNumber r
 storeNumber (scaled r) = replyNumber r
@@ -72,7 +75,7 @@ performStore (damped-solve diag out) st order s = ofEnded done (dampedCall st di
 performStore (held-solve rhs out) st order s = ofEnded done (solveCall st order rhs s out)
 performStore (held-product out) st order s = ofEnded done (mulCall st s out)
 performStore (gradient bnorm) st order s = ofTold number (gradientCall st order bnorm s)
-performStore (jx-norm x) st order s = ofTold number (jxCall st order x s)
+performStore (jx-norm x) st order s = ofTold ranged (jxCall st order x s)
 performStore (scaling md diag x bound) st order s = ofEnded scaled (scalingCall st md diag x bound s)
 performStore determined st order s = ofTold count (determinedCall st s)
 performStore non-singular st order s = ofTold truth (nonSingularCall st s)

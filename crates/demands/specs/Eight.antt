@@ -49,8 +49,8 @@ abbrev pub anyNan : List Float → Bool
 anyNan [] = false
 anyNan (x ∷ xs) = isNan x || anyNan xs
 
-abbrev pub measured : State → List ℕ → Float → Room → List Float
-measured st order bnorm r = measures (dividedBy bnorm (r .qtb)) (r .upper) (gather (take (st .n) order) (r .norms))
+abbrev pub columnMeasures : State → List ℕ → Float → Room → List Float
+columnMeasures st order bnorm r = measures (dividedBy bnorm (r .qtb)) (r .upper) (gather (take (st .n) order) (r .norms))
 
 -- an answer is not finite; `determined` and `non-singular` have no such test
 unfoldable pub storeBreaks : StoreCall → State → List ℕ → Room → Bool
@@ -58,7 +58,7 @@ storeBreaks (zero-solve out) st order r = not (allFinite (zeroX st r))
 storeBreaks (damped-solve diag out) st order r = not (allFinite (dampedNumbers (dampedL st order diag r)))
 storeBreaks (held-solve rhs out) st order r = not (allFinite (heldSolved (st .held) (gather (take (st .n) order) rhs) r))
 storeBreaks (held-product out) st order r = not (allFinite (heldProduct (st .held) r))
-storeBreaks (gradient bnorm) st order r = anyNan (measured st order bnorm r) || not (isFinite (topOf plusZero (measured st order bnorm r)))
+storeBreaks (gradient bnorm) st order r = anyNan (columnMeasures st order bnorm r) || not (isFinite (topOf plusZero (columnMeasures st order bnorm r)))
 storeBreaks (jx-norm x) st order r = not (isFinite (jxNorm (gather (take (st .n) order) x) (r .upper)))
 storeBreaks (scaling mode.FirstScaled diag x bound) st order r =
     let d = firstScaling (r .norms) in

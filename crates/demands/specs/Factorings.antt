@@ -4,11 +4,11 @@ use Prim.Native.Nat.{ℕ}
 use lib.ListN.{take, drop}
 use lib.Ieee.{Float}
 use Rattle.leaves.specs.Reply.{answered, refused}
-use Rattle.leaves.specs.Norm.{norm}
+use Rattle.leaves.specs.Norm.{norm, rangesOf}
 use Rattle.leaves.specs.Triangle.{columns}
 use Rattle.leaves.specs.Loop.{countFrom}
 use Rattle.leaves.specs.Square.{zeros}
-use Rattle.reduce.specs.Reduction.{Reduction, reduction-of}
+use Rattle.reduce.specs.Reduction.{Reduction, reduction-of, measured}
 use Rattle.factor.specs.State.{empty, storeNeed, benchNeed}
 use Rattle.factor.specs.Room.{Room, lay}
 use Rattle.factor.specs.Outcome.{written}
@@ -24,7 +24,7 @@ roomMade m n jacobian residuals store =
 
 abbrev pub factoringStands : ℕ → ℕ → List Float → List Float → List Float → List ℕ → List Float → Factored
 factoringStands m n jacobian residuals store order bench =
-    factored (answered tt) (record { m = m; n = n; held = held.Nothing }) (lay (roomMade m n jacobian residuals store)) (reductionMade m n jacobian residuals .order ++ drop n order)
+    factored (answered (rangesOf (measured m n (columns m n jacobian) (take m residuals)))) (record { m = m; n = n; held = held.Nothing }) (lay (roomMade m n jacobian residuals store)) (reductionMade m n jacobian residuals .order ++ drop n order)
     (written (zeros (benchNeed m n)) bench)
 
 abbrev pub factoringBreaks : ℕ → ℕ → List Float → List ℕ → List Float → Factored

@@ -10,8 +10,7 @@ use Rattle.factor.specs.Outcome.{Ended}
 use Rattle.demands.specs.Calls.{OutcomeOf, replyNumber}
 use Rattle.demands.specs.Calls as basic
 use Rattle.factor.specs.declared.state.State.{State}
-use Rattle.search.specs.Search.{searchCall}
-use Rattle.search.specs.declared.LMParameter.{LMParameter}
+use Rattle.search.specs.Search.{Flagged, searchCall}
 
 pub data Call : Type 0 where
   base : basic.StoreCall → Call
@@ -20,7 +19,7 @@ pub data Call : Type 0 where
 -- an answer of any of them
 pub data AnyAnswer : Type 0 where
   of-base : basic.StoreAnswer → AnyAnswer
-  found : Reply LMParameter → AnyAnswer
+  found : Reply Flagged → AnyAnswer
 
 -- the number that a call is refused by, 0 for an answer
 abbrev pub numberOf : AnyAnswer → ℕ
@@ -33,7 +32,7 @@ Outcome = OutcomeOf AnyAnswer
 abbrev pub ofBase : basic.StoreOutcome → Outcome
 ofBase o = record { answer = of-base (o .answer); state = o .state; store = o .store; out = o .out }
 
-abbrev pub ofSearch : Ended LMParameter → Outcome
+abbrev pub ofSearch : Ended Flagged → Outcome
 ofSearch e = record { answer = found (e .reply); state = e .state; store = e .store; out = e .out }
 
 -- with a state, an order list and a store

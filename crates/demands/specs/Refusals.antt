@@ -7,7 +7,7 @@ use lib.Ieee.{Float}
 use Rattle.leaves.specs.Reply.{refused}
 use Rattle.leaves.specs.Tests.{Test}
 use Rattle.factor.specs.Tests.{roomTests, orderTest, heldTest, finiteTest, finiteNumber, notAbove}
-use Rattle.demands.specs.Calls.{StoreAnswer, done, number, count, truth, scaled, StoreOutcome, storeOutcome, StoreCall, zero-solve, damped-solve, held-solve, held-product, gradient, jx-norm, scaling, determined, non-singular}
+use Rattle.demands.specs.Calls.{StoreAnswer, done, number, ranged, count, truth, scaled, StoreOutcome, storeOutcome, StoreCall, zero-solve, damped-solve, held-solve, held-product, gradient, jx-norm, scaling, determined, non-singular}
 use Rattle.factor.specs.declared.state.State.{State}
 use Rattle.measures.specs.declared.scaling.Mode.the-variants as mode
 use Rattle.search.specs.Search.{searchTests}
@@ -55,7 +55,7 @@ refusedAs (damped-solve diag out) k = done (refused k)
 refusedAs (held-solve rhs out) k = done (refused k)
 refusedAs (held-product out) k = done (refused k)
 refusedAs (gradient bnorm) k = number (refused k)
-refusedAs (jx-norm x) k = number (refused k)
+refusedAs (jx-norm x) k = ranged (refused k)
 refusedAs (scaling md diag x bound) k = scaled (refused k)
 refusedAs determined k = count (refused k)
 refusedAs non-singular k = truth (refused k)

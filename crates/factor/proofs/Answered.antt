@@ -9,15 +9,16 @@ use lib.Seq.{length-take-le, take-at}
 use lib.Ieee.{Float}
 use borrow.Author.Tests.{eqb-true}
 use Rattle.leaves.specs.Reply.{answered, refused}
-use Rattle.leaves.specs.Norm.{norm}
+use Rattle.leaves.specs.Norm.{norm, rangesOf}
+use Rattle.leaves.specs.declared.norm.Ranges.{Ranges}
 use Rattle.leaves.specs.Triangle.{columns}
-use Rattle.leaves.proofs.Replies.{refused-answered}
+use Rattle.leaves.proofs.Replies.{refused-answered, answered-same}
 use Rattle.factor.specs.State.{storeNeed, benchNeed}
 use Rattle.factor.specs.Room.{Room, load, lay}
 use Rattle.leaves.specs.Square.{zeros}
 use Rattle.leaves.specs.Tests.{firstOf, allFinite}
 use Rattle.factor.specs.Tests.{distinctBelow, isPermutation}
-use Rattle.reduce.specs.Reduction.{Reduction, reduction-of}
+use Rattle.reduce.specs.Reduction.{Reduction, reduction-of, measured}
 use Rattle.factor.specs.Factoring.{noLower, Factored, factored, factorTests, factoredRoom, finiteRoom, allFiniteIn, factorWorked, factorCall}
 use Rattle.factor.specs.Outcome.{written}
 use Rattle.factor.specs.AsFactored.{AsFactored}
@@ -31,7 +32,7 @@ use Rattle.factor.proofs.Swaps.{reduction-permutes}
 use Rattle.factor.specs.inner.Rooms.{Shaped}
 
 -- ---- an answer comes of the first of two outcomes where the second is a refusal
-by-first : (b : Bool) (x y : Factored) (k : ℕ) → y .reply ≡ refused k → (let z : Factored = elim b [ true ↦ x | false ↦ y ] in z .reply ≡ answered tt → (b ≡ true) × (z ≡ x))
+by-first : {f : Ranges} (b : Bool) (x y : Factored) (k : ℕ) → y .reply ≡ refused k → (let z : Factored = elim b [ true ↦ x | false ↦ y ] in z .reply ≡ answered f → (b ≡ true) × (z ≡ x))
 by-first true x y k r h = (refl, refl)
 by-first false x y k r h = refused-answered (sym r ∙ h)
 
@@ -45,30 +46,38 @@ module _ (m n : ℕ) (jacobian residuals store : List Float) (order : List ℕ) 
   abbrev room : Room
   room = factoredRoom m n (map norm (columns m n jacobian)) made (drop (storeNeed n) store)
 
-  abbrev answer : Factored
-  answer = factored (answered tt) (record { m = m; n = n; held = held.Nothing }) (lay room) (made .order ++ drop n order) (written (zeros (benchNeed m n)) bench)
+  -- of every norm worked out
+  abbrev flags : Ranges
+  flags = rangesOf (measured m n (columns m n jacobian) (take m residuals))
 
-  worked : factorWorked m n jacobian residuals store order bench .reply ≡ answered tt
+  abbrev answer : Factored
+  answer = factored (answered flags) (record { m = m; n = n; held = held.Nothing }) (lay room) (made .order ++ drop n order) (written (zeros (benchNeed m n)) bench)
+
+  worked : {f : Ranges} → factorWorked m n jacobian residuals store order bench .reply ≡ answered f
       → (finiteRoom room ≡ true) × (factorWorked m n jacobian residuals store order bench ≡ answer)
   unfolding factorWorked
   worked h = by-first (finiteRoom room) answer _ 8 refl h
 
-  called : call .reply ≡ answered tt
+  called : {f : Ranges} → call .reply ≡ answered f
       → (eqb (firstOf (factorTests m n jacobian residuals (length store) (length order) (length bench))) 0 ≡ true) × (call ≡ factorWorked m n jacobian residuals store order bench)
   unfolding factorCall
   called h = by-first (eqb (firstOf (factorTests m n jacobian residuals (length store) (length order) (length bench))) 0) (factorWorked m n jacobian residuals store order bench) _ _ refl h
 
-  module _ (h : call .reply ≡ answered tt) where
+  module _ {f : Ranges} (h : call .reply ≡ answered f) where
     -- it passed its tests
     pub answered-passed : Factorable m n jacobian residuals (length store) (length order) (length bench)
     answered-passed = factor-passed m n jacobian residuals (length store) (length order) (length bench) (eqb-true _ 0 (called h .0))
 
-    worked-answered : factorWorked m n jacobian residuals store order bench .reply ≡ answered tt
+    worked-answered : factorWorked m n jacobian residuals store order bench .reply ≡ answered f
     worked-answered = ap (λ (x : Factored). x .reply) (sym (called h .1)) ∙ h
 
     -- the one outcome
     pub answered-is : call ≡ answer
     answered-is = called h .1 ∙ worked worked-answered .1
+
+    -- LAW (02, #106): the flags of two answered factorings of one Jacobian and its residuals are the same, whatever is lent
+    pub factoring-flags : f ≡ flags
+    factoring-flags = answered-same (sym h ∙ ap (λ (x : Factored). x .reply) answered-is)
 
     finite : finiteRoom room ≡ true
     finite = worked worked-answered .0

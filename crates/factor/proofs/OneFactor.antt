@@ -5,20 +5,20 @@ use denote.Ref.{now}
 use borrow.Fn.World.{ArgsD}
 use borrow.Fn.Kinds.{endedOf}
 use denote.Triple.Clauses.{AtExit}
-use Rattle.leaves.proofs.Replies.{doneOf-same}
+use Rattle.leaves.proofs.Replies.{rangedOf-same}
 use Rattle.factor.specs.Factoring.{Factored}
-use Rattle.leaves.specs.declared.reply.Done.{Done}
+use Rattle.leaves.specs.declared.reply.Ranged.{Ranged}
 use Rattle.factor.specs.declared.state.State.{State}
-use Rattle.factor.specs.declared.state.Told.{Told}
+use Rattle.factor.specs.declared.state.FactorTold.{FactorTold}
 use Rattle.factor.proofs.pivoted_qr.pivoted_qr.{signature}
 use Rattle.factor.proofs.pivoted_qr.pivoted_qr.Reads as pivoted-qr
 use Rattle.factor.proofs.pivoted_qr.pivoted_qr.Kinds as kinds
 
-pub pivoted-qr-one-outcome : (κs : Lfts 5) (a : ArgsD signature κs) (r₁ r₂ : Told) (s₁ s₂ : AtExit (endedOf 5 kinds.ps kinds.r) κs)
+pub pivoted-qr-one-outcome : (κs : Lfts 5) (a : ArgsD signature κs) (r₁ r₂ : FactorTold) (s₁ s₂ : AtExit (endedOf 5 kinds.ps kinds.r) κs)
     → pivoted-qr.Post κs a r₁ s₁ → pivoted-qr.Post κs a r₂ s₂
     → (r₁ ≡ r₂) × (now (s₁ .1 .1 .1 .1 .0) ≡ now (s₂ .1 .1 .1 .1 .0)) × (now (s₁ .1 .1 .1 .1 .1 .0) ≡ now (s₂ .1 .1 .1 .1 .1 .0)) × (now (s₁ .1 .1 .1 .1 .1 .1 .0) ≡ now (s₂ .1 .1 .1 .1 .1 .1 .0))
 pivoted-qr-one-outcome κs a r₁ r₂ s₁ s₂ p q =
     let e = p ∙ sym q in
-    let f = doneOf-same (r₁ .answer) (r₂ .answer) (ap (λ (x : Factored). x .reply) e) in
+    let f = rangedOf-same (r₁ .answer) (r₂ .answer) (ap (λ (x : Factored). x .reply) e) in
     let g = ap (λ (x : Factored). x .state) e in
-    (ap (λ (x : Done). record { answer = x; state = r₁ .state }) f ∙ ap (λ (x : State). record { answer = r₂ .answer; state = x }) g, ap (λ (x : Factored). x .store) e, ap (λ (x : Factored). x .order) e, ap (λ (x : Factored). x .bench) e)
+    (ap (λ (x : Ranged). record { answer = x; state = r₁ .state }) f ∙ ap (λ (x : State). record { answer = r₂ .answer; state = x }) g, ap (λ (x : Factored). x .store) e, ap (λ (x : Factored). x .order) e, ap (λ (x : Factored). x .bench) e)

@@ -9,14 +9,15 @@ use lib.ListN.{length, getD, take, drop, replicate, length-append, length-replic
 use lib.Seq.{length-take-le, take-at, drop-at}
 use lib.Ieee.{Float}
 use Rattle.leaves.specs.Number.{plusZero}
-use Rattle.leaves.specs.Norm.{norm}
+use Rattle.leaves.specs.Norm.{norm, rangesOf}
+use Rattle.leaves.specs.declared.norm.Ranges.{Ranges}
 use Rattle.leaves.specs.Reply.{Reply}
 use Rattle.leaves.specs.Triangle.{columns}
 use Rattle.leaves.specs.Loop.{countFrom}
 use Rattle.leaves.specs.Square.{joined, zeros}
 use Rattle.factor.specs.Room.{lay}
 use Rattle.leaves.specs.Tests.{outside, allFinite}
-use Rattle.reduce.specs.Reduction.{Reduction, reduction-of}
+use Rattle.reduce.specs.Reduction.{Reduction, reduction-of, measured}
 use Rattle.factor.specs.Factoring.{uppers, noLower, transformed, factoredRoom, finiteRoom, factorWorked}
 use Rattle.reduce.specs.inner.Bench.{grid, Benched, Reduces}
 use Rattle.reduce.specs.Reduced.{reducedAs, reduceCall}
@@ -84,27 +85,30 @@ module _ (m n : ℕ) (jac res store : List Float) (sl : SquareLong m n (reductio
   module _
       (order o : List ℕ) (bench s b : List Float)
       (xs : s ≡ lay (factoredRoom m n (map norm (columns m n (take (m * n) jac))) (reduction-of m n (columns m n (take (m * n) jac)) (take m res)) (drop (n * n + 4 * n) store)))
-      (xo : o ≡ reduction-of m n (columns m n (take (m * n) jac)) (take m res) .order) (eb : b ≡ zeros (length (take (m * n + m) bench))) (hb : m * n + m ≤ length bench) where
+      (xo : o ≡ reduction-of m n (columns m n (take (m * n) jac)) (take m res) .order) (eb : b ≡ zeros (length (take (m * n + m) bench))) (seen : Ranges) (xf : seen ≡ rangesOf (measured m n (columns m n (take (m * n) jac)) (take m res))) (hb : m * n + m ≤ length bench) where
     es : s ≡ laid
     es = xs ∙ ap (λ (cs : List (List Float)). lay (factoredRoom m n (map norm cs) (reduction-of m n cs (take m res)) (drop (n * n + 4 * n) store))) (front-columns m n jac)
 
     eo : o ≡ f .order
     eo = xo ∙ ap (λ (cs : List (List Float)). reduction-of m n cs (take m res) .order) (front-columns m n jac)
 
+    ef : seen ≡ rangesOf (measured m n (columns m n jac) (take m res))
+    ef = xf ∙ ap (λ (cs : List (List Float)). rangesOf (measured m n cs (take m res))) (front-columns m n jac)
+
     bench-as : b ++ drop (m * n + m) bench ≡ zeros (m * n + m) ++ drop (length (zeros (m * n + m))) bench
     bench-as =
         let l : length (zeros (m * n + m)) ≡ m * n + m = length-replicate (m * n + m) plusZero in
         rw (eb, length-take-le (m * n + m) bench hb, l)
 
-    pub stands : allFinite (take (n * n + 2 * n) s) ≡ true → outcome true m n s (o ++ drop n order) (b ++ drop (m * n + m) bench) ≡ factorWorked m n jac res store order bench
+    pub stands : allFinite (take (n * n + 2 * n) s) ≡ true → outcome true seen m n s (o ++ drop n order) (b ++ drop (m * n + m) bench) ≡ factorWorked m n jac res store order bench
     unfolding factorWorked
     stands t =
         let g = sym finite-laid ∙ ap (λ (x : List Float). allFinite (take (n * n + 2 * n) x)) (sym es) ∙ t in
-        rw (g, factorWorked) (rw (es, eo, bench-as))
+        rw (g, factorWorked) (rw (ef, es, eo, bench-as))
 
     pub falls : (s′ : List Float) (o′ : List ℕ) → length o ≡ n → allFinite (take (n * n + 2 * n) s) ≡ false
         → s′ ≡ zeros (n * n + 4 * n) ++ drop (n * n + 4 * n) s → o′ ≡ countFrom n 0 ++ drop n (o ++ drop n order)
-        → outcome false m n s′ o′ (b ++ drop (m * n + m) bench) ≡ factorWorked m n jac res store order bench
+        → outcome false seen m n s′ o′ (b ++ drop (m * n + m) bench) ≡ factorWorked m n jac res store order bench
     unfolding factorWorked
     falls s′ o′ lo t es′ eo′ =
         let g = sym finite-laid ∙ ap (λ (x : List Float). allFinite (take (n * n + 2 * n) x)) (sym es) ∙ t in
@@ -115,14 +119,14 @@ module _ (m n : ℕ) (jac res store : List Float) (sl : SquareLong m n (reductio
 -- ---- what a reduction hands over
 
 -- the norms in the store, r_diag in a room of 16
-pub store-reduced : (m n : ℕ) (jac res store room v d b₀ b : List Float) (o₀ o : List ℕ) (w : ℕ) {r : Reply (Unit {0})} → Benched m n b₀ → outside m n ≡ false
+pub store-reduced : (m n : ℕ) (jac res store room v d b₀ b : List Float) (o₀ o : List ℕ) (w : ℕ) {r : Reply Ranges} → Benched m n b₀ → outside m n ≡ false
     → length jac ≡ m * n → length res ≡ m → n * n + 4 * n ≤ length store → length o₀ ≡ n → room ≡ replicate 16 plusZero → w ≡ n
-    → reducedAs r v d o b ≡ reduceCall m n jac res (take w (drop (n * n + n) store)) (take n room) o₀ b₀ → Reduces m n jac res v d o b
+    → reducedAs r v d o b ≡ reduceCall m n jac res (take w (drop (n * n + n) store)) (take n room) o₀ b₀ → Reduces m n jac res r v d o b
 store-reduced m n jac res store room v d b₀ b o₀ o w hb ho hj hr hs lo er ew e =
     reduces m n jac res (take w (drop (n * n + n) store)) v (take n room) d o₀ o b₀ b ho hj hr (norms-part n store w ew hs) (lent-long n room er (hb .across)) lo
     (hb .whole ∙ omega (arith, mul-comm m n, suc-mul n m)) e
 
-module _ (m n : ℕ) (jac res v d d₁ b : List Float) (o : List ℕ) (r : Reduces m n jac res v d o b) (ed : d₁ ≡ d) where
+module _ (m n : ℕ) (jac res v d d₁ b : List Float) (o : List ℕ) {a : Reply Ranges} (r : Reduces m n jac res a v d o b) (ed : d₁ ≡ d) where
   pub room-laid : (s store store₁ : List Float) → take n (drop (n * n + n) store₁) ≡ v → drop (n * n + 4 * n) store₁ ≡ drop (n * n + 4 * n) store
       → s ≡ joined (uppers m 0 (take n (grid m n b)) d₁) (noLower n) ++ (transformed n (getD (grid m n b) n []) ++ (take n (drop (n * n + n) store₁) ++ (zeros n ++ (zeros n ++ drop (n * n + 4 * n) store₁))))
       → s ≡ lay (factoredRoom m n (map norm (columns m n jac)) (reduction-of m n (columns m n jac) res) (drop (n * n + 4 * n) store))

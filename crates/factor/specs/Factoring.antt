@@ -5,7 +5,8 @@ use mathlib.Core.List.{List, [], _∷_, _++_, map}
 use lib.Dec.{eqb, ltb}
 use lib.ListN.{length, take, drop}
 use lib.Ieee.{Float}
-use Rattle.leaves.specs.Norm.{norm}
+use Rattle.leaves.specs.Norm.{norm, rangesOf}
+use Rattle.leaves.specs.declared.norm.Ranges.{Ranges}
 use Rattle.leaves.specs.Loop.{countFrom}
 use Rattle.leaves.specs.Square.{zeros}
 use Rattle.leaves.specs.Reply.{Reply, answered, refused}
@@ -13,7 +14,7 @@ use Rattle.leaves.specs.Triangle.{columns}
 use Rattle.factor.specs.State.{empty, storeNeed, benchNeed}
 use Rattle.leaves.specs.Tests.{outside, Test, firstOf, allFinite}
 use Rattle.factor.specs.Room.{Room, lay}
-use Rattle.reduce.specs.Reduction.{Reduction, reduction-of}
+use Rattle.reduce.specs.Reduction.{Reduction, reduction-of, measured}
 use Rattle.factor.specs.declared.state.Held.the-variants as held
 use Rattle.factor.specs.declared.state.State.{State}
 use Rattle.factor.specs.Outcome.{written}
@@ -38,13 +39,13 @@ noLower zero = []
 noLower (suc k) = zeros k ∷ noLower k
 
 pub record Factored : Type 0 where
-  pub reply : Reply (Unit {0})
+  pub reply : Reply Ranges
   pub state : State
   pub store : List Float
   pub order : List ℕ
   pub bench : List Float
 
-abbrev pub factored : Reply (Unit {0}) → State → List Float → List ℕ → List Float → Factored
+abbrev pub factored : Reply Ranges → State → List Float → List ℕ → List Float → Factored
 factored a st s o b = record { reply = a; state = st; store = s; order = o; bench = b }
 
 abbrev pub factorTests : ℕ → ℕ → List Float → List Float → ℕ → ℕ → ℕ → List Test
@@ -75,6 +76,7 @@ allFiniteIn (c ∷ cs) = allFinite c && allFiniteIn cs
 unfoldable pub finiteRoom : Room → Bool
 finiteRoom r = allFiniteIn (r .upper) && allFinite (r .qtb) && allFinite (r .norms)
 
+-- Answered with the flags of every norm worked out for it (02, #106).
 unfoldable pub factorWorked : ℕ → ℕ → List Float → List Float → List Float → List ℕ → List Float → Factored
 factorWorked m n jacobian residuals store order bench =
     let cols = columns m n jacobian in
@@ -82,7 +84,7 @@ factorWorked m n jacobian residuals store order bench =
     let r = factoredRoom m n (map norm cols) f (drop (storeNeed n) store) in
     let b = written (zeros (benchNeed m n)) bench in
     elim (finiteRoom r) [
-      | true ↦ factored (answered tt) (record { m = m; n = n; held = held.Nothing }) (lay r) (f .order ++ drop n order) b
+      | true ↦ factored (answered (rangesOf (measured m n cols (take m residuals)))) (record { m = m; n = n; held = held.Nothing }) (lay r) (f .order ++ drop n order) b
       | false ↦ factored (refused 8) empty (written (zeros (storeNeed n)) store) (countFrom n 0 ++ drop n order) b
     ]
 

@@ -1,6 +1,8 @@
 // Document 01, modules 2 and 3: a factoring from its lent slices to its lent slices, all tests passed.
 use crate::laying::lay_out;
 use crate::laying::take_rhs;
+use crate::wrap::seen_of;
+use leaves::norm::Ranges;
 use leaves::pieces::clear_long;
 use leaves::sizes::room16;
 use leaves::vector::all_finite;
@@ -10,12 +12,12 @@ ghost use mathlib.Core.Path.{_≡_};
 ghost use mathlib.Core.List.{[], _++_, map};
 ghost use Prim.Native.Nat.{_+_, _*_, _≤_};
 ghost use lib.ListN.{length, getD, take, drop};
-ghost use Rattle.leaves.specs.Norm.{norm};
+ghost use Rattle.leaves.specs.Norm.{norm, rangesOf};
 ghost use Rattle.leaves.specs.Triangle.{columns};
 ghost use Rattle.leaves.specs.Square.{joined, zeros};
 ghost use Rattle.factor.specs.Room.{lay};
 ghost use Rattle.factor.specs.Factoring.{uppers, noLower, transformed, factoredRoom, factorWorked};
-ghost use Rattle.reduce.specs.Reduction.{reduction-of};
+ghost use Rattle.reduce.specs.Reduction.{reduction-of, measured};
 ghost use Rattle.leaves.specs.Loop.{countFrom};
 ghost use Rattle.leaves.specs.Tests.{outside};
 ghost use mathlib.Core.Bool.{false};
@@ -47,7 +49,7 @@ fn factor_room(
     store: &mut [f64],
     order: &mut [usize],
     bench: &mut [f64],
-)
+) -> Ranges
     requires { ⌜ Benched m n (now bench) ⌝ }
     requires { ⌜ outside m n ≡ false ⌝ }
     requires { ⌜ length (now jacobian) ≡ m * n ⌝ }
@@ -58,11 +60,12 @@ fn factor_room(
     ensures { λ _. ⌜ now (order .exit) ≡ (reduction-of m n (columns m n (now (jacobian .entry))) (now (residuals .entry))) .order ⌝ }
     ensures { λ _. ⌜ now (bench .exit) ≡ zeros (length (now (bench .entry))) ⌝ }
     ensures { λ _. ⌜ SquareLong m n (reduction-of m n (columns m n (now (jacobian .entry))) (now (residuals .entry))) ⌝ }
+    ensures { λ r. ⌜ r ≡ rangesOf (measured m n (columns m n (now (jacobian .entry))) (now (residuals .entry))) ⌝ }
 {
     let a = n * n + n;
     let e = a + n;
     let mut diag = room16();
-    reduce_bench(
+    let reply = reduce_bench(
         m,
         n,
         jacobian,
@@ -74,6 +77,7 @@ fn factor_room(
     );
     lay_store(m, n, bench, &diag[..n], store);
     clear_long(bench);
+    seen_of(reply)
 }
 
 fn clear(n: usize, store: &mut [f64], order: &mut [usize])
@@ -88,7 +92,13 @@ fn clear(n: usize, store: &mut [f64], order: &mut [usize])
     count(&mut order[..n]);
 }
 
-// The answer is whether R, qt_b and the column norms are finite. Below R the square is +0, so it is tested whole.
+// Whether R, qt_b and the column norms are finite, and the ranges that took part in the norms.
+pub(crate) struct Worked {
+    pub(crate) finite: bool,
+    pub(crate) seen: Ranges,
+}
+
+// Below R the square is +0, so it is tested whole.
 pub(crate) fn factor_working(
     m: usize,
     n: usize,
@@ -97,18 +107,18 @@ pub(crate) fn factor_working(
     store: &mut [f64],
     order: &mut [usize],
     bench: &mut [f64],
-) -> bool
+) -> Worked
     requires { ⌜ outside m n ≡ false ⌝ }
     requires { ⌜ m * n ≤ length (now jacobian) ⌝ }
     requires { ⌜ m ≤ length (now residuals) ⌝ }
     requires { ⌜ n * n + 4 * n ≤ length (now store) ⌝ }
     requires { ⌜ n ≤ length (now order) ⌝ }
     requires { ⌜ m * n + m ≤ length (now bench) ⌝ }
-    ensures { λ r. ⌜ outcome r m n (now (store .exit)) (now (order .exit)) (now (bench .exit)) ≡ factorWorked m n (now (jacobian .entry)) (now (residuals .entry)) (now (store .entry)) (now (order .entry)) (now (bench .entry)) ⌝ }
+    ensures { λ r. ⌜ outcome (r .finite) (r .seen) m n (now (store .exit)) (now (order .exit)) (now (bench .exit)) ≡ factorWorked m n (now (jacobian .entry)) (now (residuals .entry)) (now (store .entry)) (now (order .entry)) (now (bench .entry)) ⌝ }
 {
     let mn = m * n;
     let need = mn + m;
-    factor_room(
+    let seen = factor_room(
         m,
         n,
         &jacobian[..mn],
@@ -119,8 +129,14 @@ pub(crate) fn factor_working(
     );
     let k = n * n + 2 * n;
     if all_finite(&store[..k]) {
-        return true;
+        return Worked {
+            finite: true,
+            seen: seen,
+        };
     }
     clear(n, store, order);
-    false
+    Worked {
+        finite: false,
+        seen: seen,
+    }
 }

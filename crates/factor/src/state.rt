@@ -1,5 +1,6 @@
 // Document 01, 'Lent room and what stays in it': the state, and what calls answer.
 use leaves::reply::Done;
+use leaves::reply::Ranged;
 ghost use mathlib.Core.Path.{_≡_};
 ghost use Rattle.factor.specs.State.{withHeld};
 
@@ -20,6 +21,12 @@ pub struct State {
 // What a call without a number of its own answers, and the state that it hands back.
 pub struct Told {
     pub answer: Done,
+    pub state: State,
+}
+
+// What a factoring answers: the ranges that took part in its norms (02, #106).
+pub struct FactorTold {
+    pub answer: Ranged,
     pub state: State,
 }
 

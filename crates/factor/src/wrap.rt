@@ -1,9 +1,23 @@
 // Leaves as the workings call them: on slices of fitting lengths there is no refusal, so a plain number or nothing comes back. A public
 // function may not require the lengths; these do, so they are not public and each crate has its own. They compile to nothing.
+use leaves::norm::Ranges;
+use leaves::norm::neither;
+use leaves::reply::Ranged;
 use leaves::reply::Value;
 ghost use mathlib.Core.Path.{_≡_};
 ghost use lib.ListN.{length};
+ghost use Rattle.leaves.specs.Reply.{rangedOf};
 ghost use Rattle.leaves.specs.Vector.{dotOf, axpyAll};
+ghost use Rattle.factor.specs.inner.Worked.{seenIn};
+
+pub(crate) fn seen_of(r: Ranged) -> Ranges
+    ensures { λ f. ⌜ f ≡ seenIn (rangedOf r) ⌝ }
+{
+    match r {
+        Ranged::Seen(f) => f,
+        Ranged::Refused(_) => neither(),
+    }
+}
 
 pub(crate) fn dot_of(a: &[f64], b: &[f64]) -> f64
     requires { ⌜ length (now a) ≡ length (now b) ⌝ }

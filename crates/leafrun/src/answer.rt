@@ -1,5 +1,6 @@
 // An answer as text.
 use leaves::norm::Normed;
+use leaves::norm::Ranges;
 use leaves::reply::Done;
 use leaves::reply::Place;
 use leaves::reply::Value;
@@ -8,6 +9,7 @@ use lines::put;
 // What a leaf answered. What `Written` wrote stands beside it.
 pub(crate) enum Reply {
     Number(f64),
+    Norm(f64, Ranges),
     Bit(bool),
     Place(usize),
     Written,
@@ -23,7 +25,8 @@ pub(crate) fn of_value(r: Value) -> Reply {
 
 pub(crate) fn of_norm(r: Normed) -> Reply {
     if r.refusal == 0 {
-        return Reply::Number(r.value);
+        let seen = r.seen;
+        return Reply::Norm(r.value, seen);
     }
     Reply::Refused(r.refusal)
 }
@@ -42,9 +45,19 @@ pub(crate) fn of_done(r: Done) -> Reply {
     }
 }
 
+// Small seen, large seen.
+fn flags(f: Ranges, out: &mut [u8], at: usize) -> usize {
+    let n = put::number(f.small as usize, out, at);
+    put::number(f.large as usize, out, n)
+}
+
 fn told(r: Reply, v: &[f64], out: &mut [u8], at: usize) -> usize {
     match r {
         Reply::Number(x) => put::double(x, out, at),
+        Reply::Norm(x, f) => {
+            let n = put::double(x, out, at);
+            flags(f, out, n)
+        }
         Reply::Bit(b) => put::number(b as usize, out, at),
         Reply::Place(i) => put::number(i, out, at),
         Reply::Written => put::row(v, out, at),

@@ -4,6 +4,9 @@ pub mod Folds
 pub mod Products
 pub mod Norms
 pub mod Normed
+pub mod Flags
+pub mod Plain
+pub mod Seen
 pub mod Triangles
 pub mod Squares
 pub mod Joined

@@ -24,12 +24,12 @@ use Rattle.leaves.proofs.Norms.{nan-step}
 use Rattle.leaves.proofs.root.Signs.{Side, no-number, endless, minus-zero, plain, odd-side, root-side, side-not-negative}
 
 -- what holds of both arms of a test
-arms : {A : Type 0} (P : A → Type 0) (b : Bool) {x y : A} → P x → P y → P (cond b x y)
+pub arms : {A : Type 0} (P : A → Type 0) (b : Bool) {x y : A} → P x → P y → P (cond b x y)
 arms P true p q = p
 arms P false p q = q
 
 -- an entry is added to one of the three sums
-in-one : (P : Sums → Type 0) (g : Float) (t : Sums) (v : Float) → P (middle t v) → P (small t v) → P (large t v) → P (add-in g t v)
+pub in-one : (P : Sums → Type 0) (g : Float) (t : Sums) (v : Float) → P (middle t v) → P (small t v) → P (large t v) → P (add-in g t v)
 unfolding add-in
 in-one P g t v m s l = arms P (lt rdwarf v && lt v g) m (arms P (le v rdwarf) s l)
 
@@ -39,17 +39,17 @@ unfolding round
 zero-over-one true = refl
 zero-over-one false = refl
 
-round-zero : (s : Bool) (a b : ℕ) → 0 < b → a ≡ 0 → round binary64 s a b ≡ fin s 0 (pos 0)
+pub round-zero : (s : Bool) (a b : ℕ) → 0 < b → a ≡ 0 → round binary64 s a b ≡ fin s 0 (pos 0)
 round-zero s a b h e = round-same binary64 s a b 0 1 h (omega arith) (omega arith) ∙ zero-over-one s
 
 -- ---- a NaN goes through every operation
-add-nan : (x : Float) → add binary64 x nan ≡ nan
+pub add-nan : (x : Float) → add binary64 x nan ≡ nan
 unfolding add
 add-nan nan = refl
 add-nan (inf s) = refl
 add-nan (fin s m e) = refl
 
-mul-nan : (x : Float) → mul binary64 x nan ≡ nan
+pub mul-nan : (x : Float) → mul binary64 x nan ≡ nan
 unfolding mul
 mul-nan nan = refl
 mul-nan (inf s) = refl

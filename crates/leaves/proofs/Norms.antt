@@ -11,7 +11,7 @@ use lib.Ieee.{Float, nan, ne, lt, le, eq, round}
 use lib.Ieee.Compare.{differs-from-itself}
 use Rattle.leaves.specs.Reply.{answered, refused}
 use Rattle.leaves.specs.Number.{absOf}
-use Rattle.leaves.specs.Norm.{rdwarf, agiant, large, add-in, step, accumulate, none, finish, norm, enorm, carried}
+use Rattle.leaves.specs.Norm.{rdwarf, agiant, large, add-in, step, accumulate, none, finish, norm, ranges, enorm, carried}
 use Rattle.leaves.specs.declared.norm.Sums.{Sums}
 use borrow.Author.Tests.{le-leb, lt-leb}
 
@@ -27,7 +27,7 @@ pub enorm-refused : (v : List Float) → 128 < length v → refused 2 ≡ enorm 
 unfolding enorm
 enorm-refused v h = rw (lt-leb (length v) 128 h, enorm)
 
-pub enorm-is : (v : List Float) → length v ≤ 128 → answered (norm v) ≡ enorm v
+pub enorm-is : (v : List Float) → length v ≤ 128 → answered (norm v, ranges v) ≡ enorm v
 unfolding enorm
 enorm-is v h = rw (le-leb (length v) 128 h, enorm)
 
@@ -35,6 +35,10 @@ enorm-is v h = rw (le-leb (length v) 128 h, enorm)
 pub norm-carried : (v : List Float) → length v ≤ 128 → carried (enorm v) .value ≡ norm v
 unfolding enorm
 norm-carried v h = rw (le-leb (length v) 128 h)
+
+pub seen-carried : (v : List Float) → length v ≤ 128 → carried (enorm v) .seen ≡ ranges v
+unfolding enorm
+seen-carried v h = rw (le-leb (length v) 128 h)
 
 pub norm-is : (v : List Float) (g : Float) (t : Sums) → g ≡ agiant (length v) → t ≡ accumulate g none v → finish t ≡ norm v
 unfolding norm

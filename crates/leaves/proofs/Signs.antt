@@ -8,8 +8,8 @@ use lib.Dec.{T, eqb}
 use lib.IntN.{ℤ, pos, negsuc}
 use lib.Pow.{pow-pos}
 use lib.Ieee.{Float, nan, inf, fin, binary64, up, down, eq, ne, lt, div, neg, isNan, ofBits}
-use borrow.Author.Tests.{lt-ltb, le-ltb, eq-eqb, eqb-true}
-use Rattle.leaves.specs.Number.{isNegative, absOf, maxOf, minOf, isFinite}
+use borrow.Author.Tests.{lt-ltb, le-ltb, eq-eqb, ne-eqb, eqb-true}
+use Rattle.leaves.specs.Number.{plusZero, isNegative, absOf, maxOf, minOf, isFinite}
 
 up-pos : (e : ℤ) → 0 < up e
 up-pos (pos k) = pow-pos k
@@ -33,6 +33,16 @@ left-true false b h = h
 
 above : (m : ℕ) (e : ℤ) → 0 < suc m * up e * 1
 above m e = let p : 0 < suc m * up e = mul-pos (omega arith) (up-pos e) in omega arith
+
+-- what equals zero: a mantissa of zero, of either sign
+pub zero-equal : (s : Bool) (e : ℤ) → eq (fin s 0 e) plusZero ≡ true
+unfolding eq
+zero-equal true e = rw (eq-eqb (0 * up e * 1) (0 * down e) (omega arith), eq-eqb (0 * up e * 1) 0 (omega arith))
+zero-equal false e = rw (eq-eqb (0 * up e * 1) (0 * down e) (omega arith))
+
+pub not-zero : (s : Bool) (m : ℕ) (e : ℤ) → eq (fin s (suc m) e) plusZero ≡ false
+unfolding eq
+not-zero s m e = rw (ne-eqb (suc m * up e * 1) (0 * down e) (λ (q : suc m * up e * 1 ≡ 0 * down e). omega (arith, above m e, q)))
 
 -- of a zero the sign is that of 1 / x, an infinity
 pub zero-sign : (x : Float) → eq x (ofBits binary64 0) ≡ true → lt (div binary64 (ofBits binary64 0x3ff0_0000_0000_0000) x) (ofBits binary64 0) ≡ isNegative x

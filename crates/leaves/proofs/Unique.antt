@@ -13,6 +13,7 @@ use Rattle.leaves.specs.Reply.{Reply}
 use Rattle.leaves.specs.declared.reply.Value.{Value}
 use Rattle.leaves.specs.declared.reply.Place.{Place}
 use Rattle.leaves.specs.declared.reply.Done.{Done}
+use Rattle.leaves.specs.declared.norm.Ranges.{Ranges}
 use Rattle.leaves.specs.declared.norm.Normed.{Normed}
 use Rattle.leaves.proofs.Replies.{valueOf-same, placeOf-same, doneOf-same}
 use Rattle.leaves.proofs.number.epsmch.{signature as epsmch-signature}
@@ -54,6 +55,12 @@ use Rattle.leaves.proofs.vector.imax.Kinds as imax-kinds
 use Rattle.leaves.proofs.norm.enorm.{signature as enorm-signature}
 use Rattle.leaves.proofs.norm.enorm.Reads as enorm
 use Rattle.leaves.proofs.norm.enorm.Kinds as enorm-kinds
+use Rattle.leaves.proofs.norm.neither.{signature as neither-signature}
+use Rattle.leaves.proofs.norm.neither.Reads as neither
+use Rattle.leaves.proofs.norm.neither.Kinds as neither-kinds
+use Rattle.leaves.proofs.norm.either.{signature as either-signature}
+use Rattle.leaves.proofs.norm.either.Reads as either
+use Rattle.leaves.proofs.norm.either.Kinds as either-kinds
 use Rattle.leaves.proofs.vector.axpy.{signature as axpy-signature}
 use Rattle.leaves.proofs.vector.axpy.Reads as axpy
 use Rattle.leaves.proofs.vector.axpy.Kinds as axpy-kinds
@@ -145,6 +152,14 @@ imax-one-outcome κs a r₁ r₂ s₁ s₂ p q = placeOf-same r₁ r₂ (p ∙ s
 pub enorm-one-outcome : (κs : Lfts 1) (a : ArgsD enorm-signature κs) (r₁ r₂ : Normed) (s₁ s₂ : AtExit (endedOf 1 enorm-kinds.ps enorm-kinds.r) κs)
     → enorm.Post κs a r₁ s₁ → enorm.Post κs a r₂ s₂ → r₁ ≡ r₂
 enorm-one-outcome κs a r₁ r₂ s₁ s₂ p q = p ∙ sym q
+
+pub neither-one-outcome : (κs : Lfts 0) (a : ArgsD neither-signature κs) (r₁ r₂ : Ranges) (s₁ s₂ : AtExit (endedOf 0 neither-kinds.ps neither-kinds.r) κs)
+    → neither.Post κs a r₁ s₁ → neither.Post κs a r₂ s₂ → r₁ ≡ r₂
+neither-one-outcome κs a r₁ r₂ s₁ s₂ p q = p ∙ sym q
+
+pub either-one-outcome : (κs : Lfts 0) (a : ArgsD either-signature κs) (r₁ r₂ : Ranges) (s₁ s₂ : AtExit (endedOf 0 either-kinds.ps either-kinds.r) κs)
+    → either.Post κs a r₁ s₁ → either.Post κs a r₂ s₂ → r₁ ≡ r₂
+either-one-outcome κs a r₁ r₂ s₁ s₂ p q = p ∙ sym q
 
 pub outside-one-outcome : (κs : Lfts 0) (a : ArgsD outside-signature κs) (r₁ r₂ : Bool) (s₁ s₂ : AtExit (endedOf 0 outside-kinds.ps outside-kinds.r) κs)
     → outside.Post κs a r₁ s₁ → outside.Post κs a r₂ s₂ → r₁ ≡ r₂

@@ -1,6 +1,6 @@
 -- 01, 'Leaf rules', enorm (MINPACK-1 guide, ANL-80-74): the norm is `finish` of `accumulate`.
 use Prim.Native.Nat.{ℕ, _*_, _^_}
-use mathlib.Core.Bool.{false, cond, _&&_}
+use mathlib.Core.Bool.{Bool, false, cond, not, _&&_, _||_}
 use mathlib.Core.List.{List, [], _∷_}
 use lib.IntN.{pos}
 use lib.Dec.{leb}
@@ -10,6 +10,7 @@ use Rattle.leaves.specs.Reply.{Reply, answered, refused}
 use Rattle.leaves.specs.Number.{plusZero, one, absOf, squareOf}
 use Rattle.leaves.specs.Root.{rootS}
 use Rattle.leaves.specs.declared.norm.Sums.{Sums}
+use Rattle.leaves.specs.declared.norm.Ranges.{Ranges}
 use Rattle.leaves.specs.declared.norm.Normed.{Normed}
 
 -- rdwarf 3.834e-20 and rgiant 1.304e19, as the doubles nearest to these decimal fractions
@@ -85,11 +86,42 @@ finish t = cond (ne (t .s1) plusZero) (finishLarge t) (cond (ne (t .s2) plusZero
 unfoldable pub norm : List Float → Float
 norm xs = finish (accumulate (agiant (length xs)) none xs)
 
--- Refused 2 over 128 numbers. Empty: +0.
-unfoldable pub enorm : List Float → Reply Float
-enorm xs = cond (leb (length xs) 128) (answered (norm xs)) (refused 2)
+-- ---- 02, #106: "whether any small or any large entry took part; zeros count as neither"
+-- Small: one ≤ rdwarf that is not 0.
+unfoldable pub isSmall : Float → Bool
+isSmall x = le (absOf x) rdwarf && ne x plusZero
 
--- a reply as the code carries it, in a struct: the number and 0, or +0 and the number of the refusal
-abbrev pub carried : Reply Float → Normed
-carried (answered x) = record { value = x; refusal = 0 }
-carried (refused k) = record { value = plusZero; refusal = k }
+-- Large: "all others, NaN too": neither strictly between rdwarf and agiant nor ≤ rdwarf.
+unfoldable pub isLarge : Float → Float → Bool
+isLarge giant x = not (lt rdwarf (absOf x) && lt (absOf x) giant) && not (le (absOf x) rdwarf)
+
+unfoldable pub any : (Float → Bool) → List Float → Bool
+any p [] = false
+any p (x ∷ xs) = p x || any p xs
+
+abbrev pub flags : Bool → Bool → Ranges
+flags s l = record { small = s; large = l }
+
+abbrev pub neither : Ranges
+neither = flags false false
+
+abbrev pub either : Ranges → Ranges → Ranges
+either a b = flags (a .small || b .small) (a .large || b .large)
+
+-- of one norm: agiant is rgiant over that norm's own length
+unfoldable pub ranges : List Float → Ranges
+ranges xs = flags (any isSmall xs) (any (isLarge (agiant (length xs))) xs)
+
+-- "in any norm worked out for that call": of the vectors whose norms are worked out
+unfoldable pub rangesOf : List (List Float) → Ranges
+rangesOf [] = neither
+rangesOf (v ∷ vs) = either (ranges v) (rangesOf vs)
+
+-- Refused 2 over 128 numbers, and then there are no flags. Empty: +0.
+unfoldable pub enorm : List Float → Reply (Float × Ranges)
+enorm xs = cond (leb (length xs) 128) (answered (norm xs, ranges xs)) (refused 2)
+
+-- a reply as the code carries it, in a struct: the number, 0 and the flags, or +0, the number of the refusal and clear flags
+abbrev pub carried : Reply (Float × Ranges) → Normed
+carried (answered p) = record { value = p .0; refusal = 0; seen = p .1 }
+carried (refused k) = record { value = plusZero; refusal = k; seen = neither }

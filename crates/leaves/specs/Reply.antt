@@ -9,6 +9,11 @@ use Rattle.leaves.specs.declared.reply.Place.{Place}
 use Rattle.leaves.specs.declared.reply.Place.the-variants as place
 use Rattle.leaves.specs.declared.reply.Done.{Done}
 use Rattle.leaves.specs.declared.reply.Done.the-variants as done
+use Rattle.leaves.specs.declared.reply.Ranged.{Ranged}
+use Rattle.leaves.specs.declared.reply.Ranged.the-variants as ranged
+use Rattle.leaves.specs.declared.reply.Measured.{Measured}
+use Rattle.leaves.specs.declared.reply.Measured.the-variants as measured
+use Rattle.leaves.specs.declared.norm.Ranges.{Ranges}
 
 pub data Reply (A : Type 0) : Type 0 where
   answered : A → Reply A
@@ -25,3 +30,11 @@ placeOf (place.Refused k) = refused k
 abbrev pub doneOf : Done → Reply (Unit {0})
 doneOf done.Written = answered tt
 doneOf (done.Refused k) = refused k
+
+abbrev pub rangedOf : Ranged → Reply Ranges
+rangedOf (ranged.Seen f) = answered f
+rangedOf (ranged.Refused k) = refused k
+
+abbrev pub measuredOf : Measured → Reply (Float × Ranges)
+measuredOf (measured.Is x f) = answered (x, f)
+measuredOf (measured.Refused k) = refused k

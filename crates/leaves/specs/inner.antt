@@ -3,3 +3,4 @@ pub mod Parts
 pub mod Patch
 pub mod Squares
 pub mod Opened
+pub mod Flags

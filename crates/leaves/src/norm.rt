@@ -5,7 +5,9 @@ use crate::root::sqrt;
 ghost use mathlib.Core.Path.{_≡_};
 ghost use Prim.Native.Nat.{_≤_};
 ghost use lib.ListN.{length};
-ghost use Rattle.leaves.specs.Norm.{large as largeOf, small as smallOf, step as stepOf, finish as finishOf, norm as normOf, enorm as enormOf, carried};
+ghost use Rattle.leaves.specs.Norm.{large as largeOf, small as smallOf, step as stepOf, finish as finishOf, norm as normOf, ranges as rangesIn, neither as neitherOf, either as eitherOf, enorm as enormOf, carried};
+ghost use Rattle.leaves.specs.inner.Flags.{flagsOf};
+ghost use Rattle.leaves.specs.Reply.{answered};
 
 const RDWARF: f64 = 3.834e-20;
 
@@ -104,6 +106,22 @@ fn step(agiant: f64, t: Sums, x: f64) -> Sums
     small(t, abs(x))
 }
 
+// Which of the rule's ranges took part in a norm: an entry that is small and not zero, an entry that is large (02, #106).
+pub struct Ranges {
+    pub small: bool,
+    pub large: bool,
+}
+
+// The sums tell it for nothing: the largest small entry is not zero, or the sum of the large ones is not.
+fn seen_in(t: Sums) -> Ranges
+    ensures { λ r. ⌜ r ≡ flagsOf t ⌝ }
+{
+    Ranges {
+        small: t.x3max != 0.0,
+        large: t.s1 != 0.0,
+    }
+}
+
 fn finish(t: Sums) -> f64
     ensures { λ r. ⌜ r ≡ finishOf t ⌝ }
 {
@@ -119,9 +137,17 @@ fn finish(t: Sums) -> f64
     t.x3max * sqrt(t.s3)
 }
 
-fn sum_up(v: &[f64]) -> f64
+// A norm, or the number of a refusal: 0 for none; and the ranges that took part. By value, so that it stays in registers; an enum that
+// carries a number goes through memory (docs/DECISIONS.md, D65).
+pub struct Normed {
+    pub value: f64,
+    pub refusal: u8,
+    pub seen: Ranges,
+}
+
+fn sum_up(v: &[f64]) -> Normed
     requires { ⌜ length (now v) ≤ 128 ⌝ }
-    ensures { λ r. ⌜ r ≡ normOf (now (v .entry)) ⌝ }
+    ensures { λ r. ⌜ r ≡ carried (answered (normOf (now (v .entry)), rangesIn (now (v .entry)))) ⌝ }
 {
     let agiant = RGIANT / (v.len() as f64);
     let mut t = Sums {
@@ -136,38 +162,53 @@ fn sum_up(v: &[f64]) -> f64
         t = step(agiant, t, v[i]);
         i += 1;
     }
-    finish(t)
+    let seen = seen_in(t);
+    Normed {
+        value: finish(t),
+        refusal: 0,
+        seen: seen,
+    }
 }
 
-// A norm, or the number of a refusal: 0 for none. By value, so that it stays in registers; an enum that carries a number goes through
-// memory (docs/DECISIONS.md, D65).
-pub struct Normed {
-    pub value: f64,
-    pub refusal: u8,
+// Of a call that works out no norm, and before the first.
+pub fn neither() -> Ranges
+    ensures { λ r. ⌜ r ≡ neitherOf ⌝ }
+{
+    Ranges {
+        small: false,
+        large: false,
+    }
 }
 
-// The Euclidean norm of v.
+// What one norm saw, or another.
+pub fn either(a: Ranges, b: Ranges) -> Ranges
+    ensures { λ r. ⌜ r ≡ eitherOf a b ⌝ }
+{
+    Ranges {
+        small: a.small | b.small,
+        large: a.large | b.large,
+    }
+}
+
+// The Euclidean norm of v, and which ranges took part in it: small where an entry was above zero and at most 3.834e-20, large where one
+// was 1.304e19 over the number of entries or more, infinite or NaN. Zeros are neither. The flags change nothing about the number.
 //
 // v: at most 128 numbers, only read. Of none the norm is +0.
-// Refused 2 for more; the value is then +0 and means nothing.
+// Refused 2 for more; the value is then +0, the flags are clear, and both mean nothing.
 // The sum is called at two places, or it would be built in here and the answer go through memory (docs/DECISIONS.md, D74).
 pub fn enorm(v: &[f64]) -> Normed
     ensures { λ r. ⌜ r ≡ carried (enormOf (now (v .entry))) ⌝ }
 {
     if v.len() > 128 {
+        let seen = neither();
         return Normed {
             value: 0.0,
             refusal: 2,
+            seen: seen,
         };
     }
     if v.len() <= 16 {
-        return Normed {
-            value: sum_up(v),
-            refusal: 0,
-        };
+        return sum_up(v);
     }
-    Normed {
-        value: sum_up(v),
-        refusal: 0,
-    }
+    sum_up(v)
 }

@@ -1,4 +1,5 @@
-// What a leaf answers. A refusal carries document 01's number.
+// What a leaf answers. A refusal carries document 01's number, and no flags (02, #106).
+use crate::norm::Ranges;
 
 pub enum Value {
     Is(f64),
@@ -12,5 +13,17 @@ pub enum Place {
 
 pub enum Done {
     Written,
+    Refused(u8),
+}
+
+// Done, and the ranges that took part in the norms worked out for it.
+pub enum Ranged {
+    Seen(Ranges),
+    Refused(u8),
+}
+
+// A number, and the ranges that took part in the norms worked out for it.
+pub enum Measured {
+    Is(f64, Ranges),
     Refused(u8),
 }

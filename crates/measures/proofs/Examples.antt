@@ -1,17 +1,23 @@
--- Document 01's commissioning examples I and J, and what determined must tell apart (02, #104), each computed by the definitions that the
--- contracts cite. Assumes nothing.
-use Prim.Native.Nat.{ℕ, _+_, _^_}
+-- Document 01's commissioning examples I and J, what determined must tell apart (02, #104), and the flags of the norm of Jx and of the scaling
+-- (02, #106), each computed by the definitions that the contracts cite. Assumes nothing.
+use Prim.Native.Nat.{ℕ, _+_, _*_, _^_}
 use mathlib.Core.Path.{_≡_, refl}
-use mathlib.Core.Bool.{false}
+use mathlib.Core.Bool.{false, true}
 use mathlib.Core.List.{List, [], _∷_, _++_}
 use lib.ListN.{replicate}
 use lib.Ieee.{Float, nan, inf, binary64, round}
 use Rattle.leaves.specs.Reply.{Reply, answered}
 use Rattle.leaves.specs.Number.{plusZero}
+use Rattle.leaves.specs.Norm.{flags, neither}
+use Rattle.leaves.specs.declared.norm.Ranges.{Ranges}
 use Rattle.factor.specs.Factoring.{Factored, factorCall}
 use Rattle.factor.specs.Outcome.{Told}
 use Rattle.factor.specs.declared.state.Held.the-variants.{Nothing}
-use Rattle.measures.specs.Measures.{gradientCall, determinedCall}
+use Rattle.factor.specs.declared.state.State.{State}
+use Rattle.measures.specs.declared.scaling.Mode.{Mode}
+use Rattle.measures.specs.declared.scaling.Mode.the-variants as mode
+use Rattle.measures.specs.Measures.{gradientCall, jxCall, determinedCall}
+use Rattle.measures.specs.Rescale.{Scaled, first, later, scalingCall}
 use Rattle.measures.specs.inner.Opened.{opened}
 
 -- whole numbers
@@ -72,3 +78,34 @@ pub determined-examples :
     × (claimed (inf false) (w 1) (w 1) .reply ≡ answered 0)
 unfolding opened
 determined-examples = (refl, refl, refl, refl, refl, refl, refl, refl, refl)
+
+-- ---- 02, #106: the norm of Jx has a number for each column, so that 4e18 is large among four columns and not alone; and zeros are neither
+abbrev opening : ℕ → ℕ → State
+opening m n = record { m = m; n = n; held = Nothing }
+
+abbrev four : Reply (Float × Ranges)
+four = jxCall (opening 1 4) (0 ∷ 1 ∷ 2 ∷ 3 ∷ []) (w 1 ∷ w 0 ∷ w 0 ∷ w 0 ∷ []) (w (4 * 10 ^ 18) ∷ replicate 31 plusZero) .reply
+
+abbrev alone : Reply (Float × Ranges)
+alone = jxCall (opening 1 1) (0 ∷ []) (w 1 ∷ []) (w (4 * 10 ^ 18) ∷ replicate 4 plusZero) .reply
+
+-- R with this diagonal
+abbrev two : Float → Float → Reply (Float × Ranges)
+two a b = jxCall (opening 2 2) (1 ∷ 0 ∷ []) (w 1 ∷ w 1 ∷ []) (a ∷ w 0 ∷ w 0 ∷ b ∷ replicate 8 plusZero) .reply
+
+-- one column of norm 1e20, x = 1 and step bound 1
+abbrev scaled : Mode → Reply Scaled
+scaled md = scalingCall (opening 1 1) md (w 1 ∷ []) (w 1 ∷ []) (w 1) (w 1 ∷ w 0 ∷ w (10 ^ 20) ∷ w 0 ∷ w 0 ∷ []) .reply
+
+pub flag-examples :
+    (four ≡ answered (w (4 * 10 ^ 18), flags false true))
+    × (alone ≡ answered (w (4 * 10 ^ 18), neither))
+    × (two (w (10 ^ 20)) (fraction 1 70) ≡ answered (w (10 ^ 20), flags true true))
+    × (two (fraction 1 70) (w 0) ≡ answered (fraction 1 70, flags true false))
+    × (two (w 0) (w 0) ≡ answered (w 0, neither))
+    × (scaled mode.FirstScaled ≡ answered (first (record { xnorm = w (10 ^ 20); radius = w (10 ^ 20) }) (flags false true)))
+    × (scaled mode.FirstUnscaled ≡ answered (first (record { xnorm = w 1; radius = w 1 }) neither))
+    × (scaled mode.LaterScaled ≡ answered (later neither))
+    × (scaled mode.LaterUnscaled ≡ answered (later neither))
+unfolding opened
+flag-examples = (refl, refl, refl, refl, refl, refl, refl, refl, refl)

@@ -5,18 +5,20 @@ use mathlib.Core.List.{List, [], _∷_, _++_}
 use Prim.Native.Nat.{ℕ, _*_, _<_, _≤_}
 use native.Mathlib.Nat.{le-refl}
 use native.Mathlib.Omega.{arith}
-use lib.ListN.{length, getD, take, drop, length-append}
+use lib.ListN.{length, take, drop, length-append}
 use lib.Seq.{take-at}
-use lib.Ieee.{Float, nan}
+use lib.Ieee.{Float}
 use borrow.Author.Tests.{ne-eqb}
 use Rattle.leaves.specs.Number.{plusZero, isFinite}
 use Rattle.leaves.specs.Reply.{Reply, answered, refused}
 use Rattle.leaves.specs.Product.{dividedBy}
-use Rattle.measures.specs.Gradient.{measures, largest, gradient, jxNorm}
+use Rattle.leaves.specs.declared.norm.Ranges.{Ranges}
+use Rattle.measures.specs.Gradient.{measures, largest, gradient, jxNorm, jxRanges}
 use Rattle.factor.specs.Room.{load, lay, rested}
 use Rattle.leaves.specs.Square.{uppersOf, diagonal}
 use Rattle.factor.specs.Solve.{gather, nonSingular}
-use Rattle.measures.specs.Determined.{limitOf, leading, determinedOf}
+use Rattle.measures.specs.Determined.{determinedOf}
+use Rattle.measures.specs.inner.Counted.{countedOf}
 use Rattle.leaves.specs.Tests.{Test, firstOf}
 use Rattle.factor.specs.Tests.{roomTests, orderTest, finiteTest, finiteNumber, notAbove, solveTests}
 use Rattle.factor.specs.Outcome.{told}
@@ -82,16 +84,20 @@ pub jx-passed : (st : State) (store : ℕ) (order : List ℕ) (x : List Float) {
 jx-passed st store order x e z =
     solve-passed st store order (length x) (earlier-passed (solveTests st store order (length x)) (finiteTest st x ∷ []) refl refl (sym e ∙ z))
 
-as-is : (v : Float) → isFinite v ≡ true → answered v ≡ finiteOr8 v
-as-is v h = rw (h, finiteOr8)
+as-is : (v : Float) (seen : Ranges) → isFinite v ≡ true → answered (v, seen) ≡ finiteOr8 v seen
+as-is v seen h = rw (h, finiteOr8)
 
-as-eight : (v : Float) → isFinite v ≡ false → refused 8 ≡ finiteOr8 v
-as-eight v h = rw (h, finiteOr8)
+as-eight : (v : Float) (seen : Ranges) → isFinite v ≡ false → refused 8 ≡ finiteOr8 v seen
+as-eight v seen h = rw (h, finiteOr8)
 
-module _ (n : ℕ) (s : List Float) (order : List ℕ) (x : List Float) {v : Float} {ok : Bool}
-    (e : v ≡ jxNorm (gather (take n order) x) (uppersOf n (take (n * n) s))) (f : ok ≡ isFinite v) where
+module _ (n : ℕ) (s : List Float) (order : List ℕ) (x : List Float) {v : Float} {seen : Ranges} {ok : Bool}
+    (e : v ≡ jxNorm (gather (take n order) x) (uppersOf n (take (n * n) s)))
+    (k : seen ≡ jxRanges (gather (take n order) x) (uppersOf n (take (n * n) s))) (f : ok ≡ isFinite v) where
   abbrev whole : Float
   whole = jxNorm (gather (take n order) x) (load n s .upper)
+
+  abbrev took-part : Ranges
+  took-part = jxRanges (gather (take n order) x) (load n s .upper)
 
   is : v ≡ whole
   is = e ∙ rw (square-upper n s)
@@ -99,26 +105,27 @@ module _ (n : ℕ) (s : List Float) (order : List ℕ) (x : List Float) {v : Flo
   finite : isFinite whole ≡ ok
   finite = ap isFinite (sym is) ∙ sym f
 
-  pub jx-finite : ok ≡ true → answered v ≡ finiteOr8 whole
-  jx-finite h = ap answered is ∙ as-is whole (finite ∙ h)
+  pair : _≡_ {A = Float × Ranges} (v, seen) (whole, took-part)
+  pair = ap (λ (y : Float). (y, seen)) is ∙ ap (λ (r : Ranges). (whole, r)) (k ∙ rw (square-upper n s))
 
-  pub jx-infinite : ok ≡ false → refused 8 ≡ finiteOr8 whole
-  jx-infinite h = as-eight whole (finite ∙ h)
+  pub jx-finite : ok ≡ true → answered (v, seen) ≡ finiteOr8 whole took-part
+  jx-finite h = ap answered pair ∙ as-is whole took-part (finite ∙ h)
+
+  pub jx-infinite : ok ≡ false → refused 8 ≡ finiteOr8 whole took-part
+  jx-infinite h = as-eight whole took-part (finite ∙ h)
 
 module _ (st : State) (order : List ℕ) (x s : List Float) {c : ℕ} (e : c ≡ firstOf (jxTests st (length s) order x)) where
   pub jx-refused : (c ≡ 0 → ⊥) → told (refused c) st s ≡ jxCall st order x s
   unfolding jxCall
   jx-refused h = call-refused _ (λ k. told (refused k) st s) _ c (sym e) (ne-eqb c 0 h)
 
-  pub jx-worked : c ≡ 0 → {r : Reply Float} {s′ : List Float} → r ≡ finiteOr8 (jxNorm (gather (take (st .n) order) x) (load (st .n) s .upper))
+  pub jx-worked : c ≡ 0 → {r : Reply (Float × Ranges)} {s′ : List Float}
+      → r ≡ finiteOr8 (jxNorm (gather (take (st .n) order) x) (load (st .n) s .upper)) (jxRanges (gather (take (st .n) order) x) (load (st .n) s .upper))
       → s′ ≡ lay (rested (load (st .n) s)) → told r st s′ ≡ jxCall st order x s
   unfolding jxCall
   jx-worked z h l = rw (h, l) (call-worked _ (λ k. told (refused k) st s) _ (sym e ∙ z))
 
 -- ---- determined: o is R's diagonal, lent as the first n of a room
-abbrev pub countedOf : ℕ → List Float → ℕ
-countedOf m ds = length (leading (limitOf m (length ds) (getD ds 0 nan)) (take m ds))
-
 module _ (n : ℕ) (room o : List Float) (h : length o ≡ n) where
   lent-again : take n (o ++ drop n room) ≡ o
   lent-again = take-at o (drop n room) n h

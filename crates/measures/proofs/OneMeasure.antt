@@ -9,8 +9,9 @@ use borrow.Fn.World.{ArgsD}
 use borrow.Fn.Kinds.{endedOf}
 use denote.Triple.Clauses.{AtExit}
 use Rattle.leaves.specs.declared.reply.Place.{Place}
-use Rattle.leaves.specs.declared.reply.Value.{Value}
-use Rattle.leaves.proofs.Replies.{placeOf-same, valueOf-same}
+use Rattle.leaves.specs.declared.reply.Measured.{Measured}
+use Rattle.leaves.specs.declared.norm.Ranges.{Ranges}
+use Rattle.leaves.proofs.Replies.{placeOf-same, measuredOf-same}
 use Rattle.factor.specs.Outcome.{Told, Ended}
 use Rattle.measures.specs.Rescale.{Scaled}
 use Rattle.factor.specs.declared.answer.Truth.{Truth}
@@ -20,7 +21,7 @@ use Rattle.factor.specs.declared.state.State.{State}
 use Rattle.factor.proofs.Answers.{truthOf-same}
 use Rattle.measures.proofs.Answers.{gradientOf-same, scalingOf-same}
 use Rattle.measures.specs.declared.measures.GradientTold.{GradientTold}
-use Rattle.measures.specs.declared.measures.ValueTold.{ValueTold}
+use Rattle.measures.specs.declared.measures.MeasuredTold.{MeasuredTold}
 use Rattle.measures.specs.declared.measures.PlaceTold.{PlaceTold}
 use Rattle.measures.specs.declared.measures.TruthTold.{TruthTold}
 use Rattle.measures.specs.declared.update_diag.ScalingTold.{ScalingTold}
@@ -50,15 +51,15 @@ max-a-t-b-scaled-one-outcome κs a r₁ r₂ s₁ s₂ p q =
     let e = p ∙ sym q in
     (gradient-told (gradientOf-same (r₁ .answer) (r₂ .answer) (ap (λ (x : Told Float). x .reply) e)) (ap (λ (x : Told Float). x .state) e), ap (λ (x : Told Float). x .store) e)
 
-value-told : {r t : ValueTold} → r .answer ≡ t .answer → r .state ≡ t .state → r ≡ t
-value-told {r = r} {t = t} e f =
-    ap (λ (a : Value). record { answer = a; state = r .state }) e ∙ ap (λ (s : State). record { answer = t .answer; state = s }) f
+measured-told : {r t : MeasuredTold} → r .answer ≡ t .answer → r .state ≡ t .state → r ≡ t
+measured-told {r = r} {t = t} e f =
+    ap (λ (a : Measured). record { answer = a; state = r .state }) e ∙ ap (λ (s : State). record { answer = t .answer; state = s }) f
 
-pub a-x-norm-one-outcome : (κs : Lfts 3) (a : ArgsD a-x-norm-signature κs) (r₁ r₂ : ValueTold) (s₁ s₂ : AtExit (endedOf 3 a-x-norm-kinds.ps a-x-norm-kinds.r) κs)
+pub a-x-norm-one-outcome : (κs : Lfts 3) (a : ArgsD a-x-norm-signature κs) (r₁ r₂ : MeasuredTold) (s₁ s₂ : AtExit (endedOf 3 a-x-norm-kinds.ps a-x-norm-kinds.r) κs)
     → a-x-norm.Post κs a r₁ s₁ → a-x-norm.Post κs a r₂ s₂ → (r₁ ≡ r₂) × (now (s₁ .1 .0) ≡ now (s₂ .1 .0))
 a-x-norm-one-outcome κs a r₁ r₂ s₁ s₂ p q =
     let e = p ∙ sym q in
-    (value-told (valueOf-same (r₁ .answer) (r₂ .answer) (ap (λ (x : Told Float). x .reply) e)) (ap (λ (x : Told Float). x .state) e), ap (λ (x : Told Float). x .store) e)
+    (measured-told (measuredOf-same (r₁ .answer) (r₂ .answer) (ap (λ (x : Told (Float × Ranges)). x .reply) e)) (ap (λ (x : Told (Float × Ranges)). x .state) e), ap (λ (x : Told (Float × Ranges)). x .store) e)
 
 place-told : {r t : PlaceTold} → r .answer ≡ t .answer → r .state ≡ t .state → r ≡ t
 place-told {r = r} {t = t} e f =

@@ -14,6 +14,6 @@ gradientOf (gradient.Refused k) = refused k
 
 -- The first scaling alone gives xnorm and radius.
 abbrev pub scalingOf : Scaling → Reply Scaled
-scalingOf (scaling.First t) = answered (first t)
-scalingOf scaling.Later = answered later
+scalingOf (scaling.First t f) = answered (first t f)
+scalingOf (scaling.Later f) = answered (later f)
 scalingOf (scaling.Refused k) = refused k

@@ -6,9 +6,10 @@ use lib.Ieee.{Float, binary64, div, eq, isNan}
 use Rattle.leaves.specs.Reply.{Reply, answered, refused}
 use Rattle.leaves.specs.Number.{plusZero, absOf, maxOf, isFinite}
 use Rattle.leaves.specs.Vector.{dotOf, axpyAll}
-use Rattle.leaves.specs.Norm.{norm}
+use Rattle.leaves.specs.Norm.{norm, ranges}
 use Rattle.leaves.specs.Product.{dividedBy}
 use Rattle.leaves.specs.Square.{zeros}
+use Rattle.leaves.specs.declared.norm.Ranges.{Ranges}
 
 -- the measures of the columns in pivot order, given their norms; the gradient skips columns of norm zero
 unfoldable pub measures : List Float → List (List Float) → List Float → List Float
@@ -34,3 +35,7 @@ combined w (c ∷ cs) (x ∷ xs) = combined (axpyAll x c w) cs xs
 
 unfoldable pub jxNorm : List Float → List (List Float) → Float
 jxNorm xs upper = norm (combined (zeros (length upper)) upper xs)
+
+-- 02, #106: the flags of that one norm, of a number for each column
+unfoldable pub jxRanges : List Float → List (List Float) → Ranges
+jxRanges xs upper = ranges (combined (zeros (length upper)) upper xs)

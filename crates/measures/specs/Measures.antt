@@ -12,9 +12,10 @@ use Rattle.factor.specs.Room.{load, lay, rested}
 use Rattle.factor.specs.Tests.{roomTests, orderTest, finiteTest, finiteNumber, notAbove, solveTests}
 use Rattle.factor.specs.Solve.{gather, nonSingular}
 use Rattle.measures.specs.Determined.{determinedOf}
-use Rattle.measures.specs.Gradient.{gradient, jxNorm}
+use Rattle.measures.specs.Gradient.{gradient, jxNorm, jxRanges}
 use Rattle.factor.specs.declared.state.State.{State}
 use Rattle.factor.specs.Outcome.{Told, told}
+use Rattle.leaves.specs.declared.norm.Ranges.{Ranges}
 
 unfoldable pub gradientCall : State → List ℕ → Float → List Float → Told Float
 gradientCall st order bnorm store =
@@ -25,15 +26,17 @@ gradientCall st order bnorm store =
       | false ↦ told (refused c) st store
     ]
 
-abbrev pub finiteOr8 : Float → Reply Float
-finiteOr8 x = elim (isFinite x) [ true ↦ answered x | false ↦ refused 8 ]
+-- a norm with its flags; a refusal carries none (02, #106)
+abbrev pub finiteOr8 : Float → Ranges → Reply (Float × Ranges)
+finiteOr8 x seen = elim (isFinite x) [ true ↦ answered (x, seen) | false ↦ refused 8 ]
 
-unfoldable pub jxCall : State → List ℕ → List Float → List Float → Told Float
+unfoldable pub jxCall : State → List ℕ → List Float → List Float → Told (Float × Ranges)
 jxCall st order x store =
     let c = firstOf (solveTests st (length store) order (length x) ++ (finiteTest st x ∷ [])) in
     let r = load (st .n) store in
+    let xs = gather (take (st .n) order) x in
     elim (eqb c 0) [
-      | true ↦ told (finiteOr8 (jxNorm (gather (take (st .n) order) x) (r .upper))) st (lay (rested r))
+      | true ↦ told (finiteOr8 (jxNorm xs (r .upper)) (jxRanges xs (r .upper))) st (lay (rested r))
       | false ↦ told (refused c) st store
     ]
 

@@ -6,7 +6,7 @@ use lib.Dec.{eqb}
 use lib.ListN.{length, take}
 use lib.Ieee.{Float}
 use Rattle.leaves.specs.Reply.{Reply, answered, refused}
-use Rattle.leaves.specs.Norm.{norm}
+use Rattle.leaves.specs.Norm.{norm, neither, ranges}
 use Rattle.leaves.specs.Product.{productAll}
 use Rattle.factor.specs.Room.{load, lay, rested}
 use Rattle.leaves.specs.Tests.{Test, firstOf, allFinite}
@@ -17,11 +17,12 @@ use Rattle.factor.specs.declared.state.State.{State}
 use Rattle.measures.specs.declared.scaling.Mode.{Mode}
 use Rattle.measures.specs.declared.scaling.Mode.the-variants as mode
 use Rattle.measures.specs.declared.scaling.Start.{Start}
+use Rattle.leaves.specs.declared.norm.Ranges.{Ranges}
 
--- The first call alone gives xnorm and radius.
+-- The first call alone gives xnorm and radius. Each answer carries the flags of the norms worked out for it (02, #106): of xnorm, or none.
 pub data Scaled : Type 0 where
-  first : Start → Scaled
-  later : Scaled
+  first : Start → Ranges → Scaled
+  later : Ranges → Scaled
 
 -- The lent scaling holds n in every mode. x and step bound are read by the first call alone, the lent scaling by later scaled mode.
 abbrev pub firstTests : State → ℕ → List Float → List Float → Float → List Test
@@ -42,14 +43,14 @@ unfoldable pub rescaled : Mode → ℕ → List Float → List Float → List Fl
 rescaled mode.FirstScaled n norms diag x bound =
     let d = firstScaling norms in
     let t = startBy bound (norm (productAll d (take n x))) in
-    orRefused (allFinite d && usable t) (first t) (written d diag) diag
+    orRefused (allFinite d && usable t) (first t (ranges (productAll d (take n x)))) (written d diag) diag
 rescaled mode.FirstUnscaled n norms diag x bound =
     let t = startBy bound (norm (take n x)) in
-    orRefused (usable t) (first t) diag diag
+    orRefused (usable t) (first t (ranges (take n x))) diag diag
 rescaled mode.LaterScaled n norms diag x bound =
     let d = laterScaling norms (take n diag) in
-    orRefused (allFinite d) later (written d diag) diag
-rescaled mode.LaterUnscaled n norms diag x bound = (answered later, diag)
+    orRefused (allFinite d) (later neither) (written d diag) diag
+rescaled mode.LaterUnscaled n norms diag x bound = (answered (later neither), diag)
 
 unfoldable pub scalingCall : State → Mode → List Float → List Float → Float → List Float → Ended Scaled
 scalingCall st md diag x bound store =

@@ -3,6 +3,7 @@
 use crate::wrap::axpy_of;
 use crate::wrap::dot_of;
 use crate::wrap::norm_of;
+use leaves::norm::Normed;
 use leaves::number::abs;
 use leaves::number::is_finite;
 use leaves::number::max;
@@ -18,7 +19,7 @@ ghost use Rattle.factor.specs.Solve.{gather};
 ghost use Rattle.measures.specs.Answers.{gradientOf};
 ghost use Rattle.leaves.specs.Square.{uppersOf};
 ghost use Rattle.leaves.specs.Product.{dividedBy};
-ghost use Rattle.measures.specs.Gradient.{measures, largest, combined, jxNorm};
+ghost use Rattle.measures.specs.Gradient.{measures, largest, combined, jxNorm, jxRanges};
 ghost use Rattle.leaves.specs.inner.Squares.{Square};
 
 // The Rust gives None for a NaN; here that is refusal 8, as is a measure that is not finite.
@@ -113,12 +114,13 @@ fn combine(square: &[f64], n: usize, order: &[usize], x: &[f64], w: &mut [f64])
     }
 }
 
-pub(crate) fn jx_norm(square: &[f64], n: usize, order: &[usize], x: &[f64], w: &mut [f64]) -> f64
+pub(crate) fn jx_norm(square: &[f64], n: usize, order: &[usize], x: &[f64], w: &mut [f64]) -> Normed
     requires { ⌜ Square n (now square) ⌝ }
     requires { ⌜ (n ≤ length (now x)) × (length (now w) ≡ n) ⌝ }
     requires { ⌜ n ≤ length (now order) ⌝ }
     requires { ⌜ ((k : ℕ) → k < n → getD (now order) k 0 < n) ⌝ }
-    ensures { λ r. ⌜ r ≡ jxNorm (gather (take n (now (order .entry))) (now (x .entry))) (uppersOf n (now (square .entry))) ⌝ }
+    ensures { λ r. ⌜ r .value ≡ jxNorm (gather (take n (now (order .entry))) (now (x .entry))) (uppersOf n (now (square .entry))) ⌝ }
+    ensures { λ r. ⌜ r .seen ≡ jxRanges (gather (take n (now (order .entry))) (now (x .entry))) (uppersOf n (now (square .entry))) ⌝ }
 {
     fill(0.0, w);
     combine(square, n, order, x, w);

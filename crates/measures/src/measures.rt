@@ -16,8 +16,8 @@ use factor::state::State;
 use leaves::number::abs;
 use leaves::number::epsmch;
 use leaves::number::is_finite;
+use leaves::reply::Measured;
 use leaves::reply::Place;
-use leaves::reply::Value;
 use leaves::sizes::least;
 use leaves::sizes::room16;
 use leaves::vector::all_finite;
@@ -25,27 +25,27 @@ ghost use mathlib.Core.Path.{_≡_};
 ghost use mathlib.Core.List.{[], _∷_, _++_};
 ghost use Prim.Native.Nat.{ℕ, _<_, _≤_};
 ghost use lib.ListN.{length, getD, take};
-ghost use lib.Ieee.{nan};
-ghost use Rattle.leaves.specs.Reply.{placeOf, valueOf};
-ghost use Rattle.measures.specs.Determined.{leading, limitOf};
+ghost use Rattle.leaves.specs.Reply.{placeOf, measuredOf};
+ghost use Rattle.measures.specs.Determined.{limitOf};
 ghost use Rattle.measures.specs.Answers.{gradientOf};
 ghost use Rattle.factor.specs.Answers.{truthOf};
 ghost use Rattle.factor.specs.Outcome.{told};
 ghost use Rattle.measures.specs.Measures.{gradientCall, jxCall, determinedCall, nonSingularCall, finiteOr8};
 ghost use Rattle.factor.specs.Tests.{solveTests, roomTests, orderTest, finiteTest, finiteNumber, notAbove};
-ghost use Rattle.measures.specs.Gradient.{gradient, jxNorm};
+ghost use Rattle.measures.specs.Gradient.{gradient, jxNorm, jxRanges};
 ghost use Rattle.factor.specs.Room.{load, lay, rested};
 ghost use Rattle.factor.specs.Solve.{gather};
 ghost use Rattle.leaves.specs.Tests.{firstOf};
 ghost use Rattle.factor.specs.inner.Rooms.{Sized};
+ghost use Rattle.measures.specs.inner.Counted.{countedOf};
 
 pub struct GradientTold {
     pub answer: Gradient,
     pub state: State,
 }
 
-pub struct ValueTold {
-    pub answer: Value,
+pub struct MeasuredTold {
+    pub answer: Measured,
     pub state: State,
 }
 
@@ -141,43 +141,44 @@ fn check_jx(st: State, store: usize, order: &[usize], x: &[f64]) -> u8
 }
 
 // w is for R·x.
-fn jx_in(n: usize, store: &mut [f64], order: &[usize], x: &[f64], w: &mut [f64]) -> Value
+fn jx_in(n: usize, store: &mut [f64], order: &[usize], x: &[f64], w: &mut [f64]) -> Measured
     requires { ⌜ (0 < n) × Sized n (now store) ⌝ }
     requires { ⌜ n ≤ length (now order) ⌝ }
     requires { ⌜ ((k : ℕ) → k < n → getD (now order) k 0 < n) ⌝ }
     requires { ⌜ (n ≤ length (now x)) × (length (now w) ≡ n) ⌝ }
-    ensures { λ r. ⌜ valueOf r ≡ finiteOr8 (jxNorm (gather (take n (now (order .entry))) (now (x .entry))) (load n (now (store .entry)) .upper)) ⌝ }
+    ensures { λ r. ⌜ measuredOf r ≡ finiteOr8 (jxNorm (gather (take n (now (order .entry))) (now (x .entry))) (load n (now (store .entry)) .upper)) (jxRanges (gather (take n (now (order .entry))) (now (x .entry))) (load n (now (store .entry)) .upper)) ⌝ }
     ensures { λ _. ⌜ now (store .exit) ≡ lay (rested (load n (now (store .entry)))) ⌝ }
 {
     let nn = n * n;
     let s = jx_norm(&store[..nn], n, order, x, w);
     rest(n, store);
-    if is_finite(s) {
-        return Value::Is(s);
+    if is_finite(s.value) {
+        let seen = s.seen;
+        return Measured::Is(s.value, seen);
     }
-    Value::Refused(8)
+    Measured::Refused(8)
 }
 
-// The norm of J·x (`a_x_norm`).
+// The norm of J·x (`a_x_norm`), and the ranges that took part in it (02, #106).
 //
 // st: a state of the problem. store: R is read; on exit work is +0. order: read. x: the first n, each at its column, read.
 // Hands the state back as it came.
 // Refused 5 for an empty state, 2 for its sizes, 3 for a slice that is too short, 4 for an order list that is none, 6 for an entry of x that
 // is not finite: all as it was. Refused 8 where the norm is not finite: work +0.
-pub fn a_x_norm(st: State, store: &mut [f64], order: &[usize], x: &[f64]) -> ValueTold
-    ensures { λ r. ⌜ told (valueOf (r .answer)) (r .state) (now (store .exit)) ≡ jxCall st (now (order .entry)) (now (x .entry)) (now (store .entry)) ⌝ }
+pub fn a_x_norm(st: State, store: &mut [f64], order: &[usize], x: &[f64]) -> MeasuredTold
+    ensures { λ r. ⌜ told (measuredOf (r .answer)) (r .state) (now (store .exit)) ≡ jxCall st (now (order .entry)) (now (x .entry)) (now (store .entry)) ⌝ }
 {
     let c = check_jx(st, store.len(), order, x);
     if c != 0 {
-        return ValueTold {
-            answer: Value::Refused(c),
+        return MeasuredTold {
+            answer: Measured::Refused(c),
             state: st,
         };
     }
     let n = st.n;
     let mut w = room16();
     let answer = jx_in(n, store, order, x, &mut w[..n]);
-    ValueTold {
+    MeasuredTold {
         answer: answer,
         state: st,
     }
@@ -197,7 +198,7 @@ fn limit_of(m: usize, n: usize, r00: f64) -> f64
 // The leading places above the limit, of the first m at most: place m fails where m < n. A NaN is above nothing.
 fn determined_of(diag: &[f64], m: usize) -> usize
     requires { ⌜ (0 < length (now diag)) × (length (now diag) ≤ 16) × (m ≤ 128) ⌝ }
-    ensures { λ r. ⌜ r ≡ length (leading (limitOf m (length (now (diag .entry))) (getD (now (diag .entry)) 0 nan)) (take m (now (diag .entry)))) ⌝ }
+    ensures { λ r. ⌜ r ≡ countedOf m (now (diag .entry)) ⌝ }
 {
     let limit = limit_of(m, diag.len(), diag[0]);
     let top = least(m, diag.len());

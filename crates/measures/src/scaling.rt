@@ -1,6 +1,9 @@
 // Document 01, module 6: the scaling of `update_diag`.
 use crate::wrap::copy_of;
 use crate::wrap::norm_of;
+use leaves::norm::Normed;
+use leaves::norm::Ranges;
+use leaves::norm::neither;
 use leaves::number::is_finite;
 use leaves::number::max;
 use leaves::sizes::room16;
@@ -12,7 +15,7 @@ ghost use mathlib.Core.List.{[]};
 ghost use lib.ListN.{length};
 ghost use lib.Ieee.{eq};
 ghost use Rattle.leaves.specs.Number.{plusZero, one};
-ghost use Rattle.leaves.specs.Norm.{norm};
+ghost use Rattle.leaves.specs.Norm.{norm, ranges};
 ghost use Rattle.leaves.specs.Product.{productAll};
 ghost use Rattle.measures.specs.Answers.{scalingOf};
 ghost use Rattle.measures.specs.Scaling.{firstScaling, laterScaling, radiusOf, startBy, usable};
@@ -32,10 +35,10 @@ pub struct Start {
     pub radius: f64,
 }
 
-// The first call alone gives xnorm and radius.
+// The first call alone gives xnorm and radius, and works out a norm; each answer carries the ranges that took part (02, #106).
 pub enum Scaling {
-    First(Start),
-    Later,
+    First(Start, Ranges),
+    Later(Ranges),
     Refused(u8),
 }
 
@@ -106,10 +109,11 @@ pub(crate) fn is_usable(t: Start) -> bool
 }
 
 // The norm of the products entry·x, by way of w.
-fn scaled_norm(d: &[f64], x: &[f64], w: &mut [f64]) -> f64
+fn scaled_norm(d: &[f64], x: &[f64], w: &mut [f64]) -> Normed
     requires { ⌜ length (now w) ≤ 16 ⌝ }
     requires { ⌜ (length (now d) ≡ length (now w)) × (length (now x) ≡ length (now w)) ⌝ }
-    ensures { λ r. ⌜ r ≡ norm (productAll (now (d .entry)) (now (x .entry))) ⌝ }
+    ensures { λ r. ⌜ r .value ≡ norm (productAll (now (d .entry)) (now (x .entry))) ⌝ }
+    ensures { λ r. ⌜ r .seen ≡ ranges (productAll (now (d .entry)) (now (x .entry))) ⌝ }
 {
     product_into(d, x, w);
     norm_of(w)
@@ -131,7 +135,8 @@ fn first_scaled(
     ensures { λ r. ⌜ (scalingOf r, now (diag .exit)) ≡ rescaled modes.FirstScaled n (now (norms .entry)) (now (diag .entry)) (now (x .entry)) bound ⌝ }
 {
     first_scaling(norms, d);
-    let t = start_by(bound, scaled_norm(d, &x[..n], w));
+    let s = scaled_norm(d, &x[..n], w);
+    let t = start_by(bound, s.value);
     if !all_finite(d) {
         return Scaling::Refused(8);
     }
@@ -139,16 +144,19 @@ fn first_scaled(
         return Scaling::Refused(8);
     }
     copy_of(d, &mut diag[..n]);
-    Scaling::First(t)
+    let seen = s.seen;
+    Scaling::First(t, seen)
 }
 
 fn first_unscaled(n: usize, x: &[f64], bound: f64) -> Scaling
     requires { ⌜ (n ≤ 16) × (n ≤ length (now x)) ⌝ }
     ensures { λ r. ⌜ scalingOf r ≡ rescaled modes.FirstUnscaled n [] [] (now (x .entry)) bound .0 ⌝ }
 {
-    let t = start_by(bound, norm_of(&x[..n]));
+    let s = norm_of(&x[..n]);
+    let t = start_by(bound, s.value);
     if is_usable(t) {
-        return Scaling::First(t);
+        let seen = s.seen;
+        return Scaling::First(t, seen);
     }
     Scaling::Refused(8)
 }
@@ -163,7 +171,7 @@ fn later_scaled(n: usize, norms: &[f64], d: &mut [f64], diag: &mut [f64]) -> Sca
         return Scaling::Refused(8);
     }
     copy_of(d, &mut diag[..n]);
-    Scaling::Later
+    Scaling::Later(neither())
 }
 
 pub(crate) fn rescale(
@@ -184,6 +192,6 @@ pub(crate) fn rescale(
         Mode::FirstScaled => first_scaled(n, norms, &mut d[..n], &mut w[..n], diag, x, bound),
         Mode::FirstUnscaled => first_unscaled(n, x, bound),
         Mode::LaterScaled => later_scaled(n, norms, &mut d[..n], diag),
-        Mode::LaterUnscaled => Scaling::Later,
+        Mode::LaterUnscaled => Scaling::Later(neither()),
     }
 }

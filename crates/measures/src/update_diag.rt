@@ -98,7 +98,8 @@ fn rescale_in(
     answer
 }
 
-// The scaling (`update_diag`), and from its first call xnorm and the radius.
+// The scaling (`update_diag`), and from its first call xnorm and the radius; with the ranges that took part in xnorm (02, #106), neither from
+// a later call, which works out no norm.
 //
 // st: a state of the problem. store: the column norms are read; on exit work is +0. mode: first or later call, scaled or not. diag: the
 // scaling, read by a later scaled call; on exit of a scaled call its first n are the new entries. x, bound: the parameters and the step

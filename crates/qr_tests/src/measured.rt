@@ -2,7 +2,7 @@
 use crate::near;
 use crate::near::default_epsilon;
 use crate::problem;
-use leaves::reply::Value;
+use leaves::reply::Measured;
 use measures::gradient::Gradient;
 use measures::measures::a_x_norm;
 use measures::measures::max_a_t_b_scaled;
@@ -14,10 +14,10 @@ fn measures(answer: Gradient, expected: f64, epsilon: f64) -> bool {
     }
 }
 
-fn is(answer: Value, expected: f64, epsilon: f64) -> bool {
+fn is(answer: Measured, expected: f64, epsilon: f64) -> bool {
     match answer {
-        Value::Is(x) => near::relative_eq(x, expected, epsilon),
-        Value::Refused(k) => false,
+        Measured::Is(x, _) => near::relative_eq(x, expected, epsilon),
+        Measured::Refused(k) => false,
     }
 }
 

@@ -1,7 +1,7 @@
 // Problems that several tests of qr.rs share, and the calls as the tests make them.
 use crate::room;
 use crate::side::Side;
-use crate::side::told;
+use crate::side::factored;
 
 // The Jacobian of test_pivoted_qr and test_into_lls, 4 by 3.
 const SMALL: [f64; 12] = [2.0, 0.0, 0.0, 1.0, 1.0, 10.0, 4.0, 0.0, 4.0, -1.0, 0.5, 0.0];
@@ -45,7 +45,7 @@ pub(crate) fn lls(m: usize, n: usize, jacobian: &[f64], residuals: &[f64]) -> Si
         &mut order,
         &mut bench,
     );
-    told(t, store, order, room::vector())
+    factored(t, store, order, room::vector())
 }
 
 pub(crate) fn small() -> Side {

@@ -4,9 +4,11 @@ use factor::cholesky::mul_qt_b;
 use factor::cholesky::solve;
 use factor::least_squares::solve_with_diagonal;
 use factor::least_squares::solve_with_zero_diagonal;
+use factor::state::FactorTold;
 use factor::state::State;
 use factor::state::Told;
 use leaves::reply::Done;
+use leaves::reply::Ranged;
 
 // `out` is what the last call wrote, and `good` whether it was not refused.
 pub(crate) struct Side {
@@ -15,6 +17,13 @@ pub(crate) struct Side {
     pub(crate) order: [usize; 8],
     pub(crate) out: [f64; 64],
     pub(crate) good: bool,
+}
+
+fn seen(answer: Ranged) -> bool {
+    match answer {
+        Ranged::Seen(f) => true,
+        Ranged::Refused(k) => false,
+    }
 }
 
 fn written(answer: Done) -> bool {
@@ -33,6 +42,18 @@ pub(crate) fn told(t: Told, store: [f64; 64], order: [usize; 8], out: [f64; 64])
         order: order,
         out: out,
         good: written(answer),
+    }
+}
+
+pub(crate) fn factored(t: FactorTold, store: [f64; 64], order: [usize; 8], out: [f64; 64]) -> Side {
+    let state = t.state;
+    let answer = t.answer;
+    Side {
+        state: state,
+        store: store,
+        order: order,
+        out: out,
+        good: seen(answer),
     }
 }
 

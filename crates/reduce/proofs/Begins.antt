@@ -3,11 +3,14 @@ use mathlib.Core.Path.{_≡_, refl, sym, ap, _∙_}
 use mathlib.Core.List.{List, [], _∷_, _++_, map, append-assoc}
 use Prim.Native.Nat.{ℕ, zero, suc, _+_, _*_, _<_, _≤_}
 use native.Mathlib.Nat.{suc-mul, add-comm, mul-comm, le-refl, not-suc-le-zero, le-of-suc-le-suc}
+use native.Mathlib.Numerals.{add-one}
 use native.Mathlib.Omega.{arith}
 use lib.ListN.{length, getD, take, drop, length-drop}
-use lib.Seq.{length-take-le, take-at, drop-at, take-add, take-take, getD-take}
+use lib.Seq.{length-take-le, take-suc, take-at, drop-at, take-add, take-take, getD-take}
 use lib.Ieee.{Float, nan}
-use Rattle.leaves.specs.Norm.{norm}
+use Rattle.leaves.specs.Norm.{norm, either, ranges, rangesOf}
+use Rattle.leaves.specs.declared.norm.Ranges.{Ranges}
+use Rattle.leaves.proofs.Seen.{rangesOf-last}
 use Rattle.leaves.specs.Loop.{countFrom}
 use Rattle.leaves.specs.Triangle.{columns}
 use Rattle.reduce.specs.Reduction.{start}
@@ -24,6 +27,10 @@ pub norms-at : (cs : List (List Float)) (i : ℕ) → i < length cs → getD (ma
 norms-at [] i h = absurd (not-suc-le-zero h)
 norms-at (c ∷ cs) zero h = refl
 norms-at (c ∷ cs) (suc i) h = norms-at cs i (le-of-suc-le-suc h)
+
+-- the flags of the columns so far, and of the next
+pub measured-next : (cs : List (List Float)) (k : ℕ) (seen : Ranges) → k < length cs → seen ≡ rangesOf (take k cs) → either seen (ranges (getD cs k [])) ≡ rangesOf (take (k + 1) cs)
+measured-next cs k seen h e = ap (λ (x : Ranges). either x (ranges (getD cs k []))) e ∙ sym (rangesOf-last (take k cs) (getD cs k [])) ∙ ap rangesOf (sym (take-suc cs k [] h)) ∙ rw add-one refl
 
 -- ---- the columns of a bench
 -- a call that keeps the bench's length leaves a bench
@@ -58,7 +65,7 @@ columns-ahead m (suc n) s b h =
 
 pub begun : (m n : ℕ) (jac res bench norms d w : List Float) (o o₀ : List ℕ) → m * n ≤ length jac → m ≤ length res → bench ≡ take (m * n) jac ++ take m res
     → norms ≡ map norm (take n (grid m n bench)) → d ≡ norms → w ≡ norms → o ≡ countFrom (length o₀) 0 → length o₀ ≡ n
-    → (norms ≡ map norm (columns m n jac)) × (underWay m n bench d w o ≡ start (columns m n jac) (take m res))
+    → (norms ≡ map norm (columns m n jac)) × ((underWay m n bench d w o ≡ start (columns m n jac) (take m res)) × (rangesOf (take n (grid m n bench)) ≡ rangesOf (columns m n jac)))
 unfolding start
 begun m n jac res bench norms d w o o₀ hj hr eb en ed ew eo lo =
     let c : m * n ≡ n * m = mul-comm m n in
@@ -68,4 +75,4 @@ begun m n jac res bench norms d w o o₀ hj hr eb en ed ew eo lo =
     column-at m (suc n) n bench (le-refl (suc n)) ∙ rw (b, drop-at (take (n * m) jac) (take m res) (n * m) (length-take-le (n * m) jac (omega arith))) (take-take m m res (le-refl m)) in
     let ns : norms ≡ map norm (columns m n jac) = en ∙ ap (map norm) cols in
     let k : countFrom (length o₀) 0 ≡ countFrom (length (columns m n jac)) 0 = ap (λ (l : ℕ). countFrom l 0) (lo ∙ sym (columns-length m n jac)) in
-    (ns, rw (cols, rhs, ed, ew, ns, eo, k))
+    (ns, (rw (cols, rhs, ed, ew, ns, eo, k), ap rangesOf cols))

@@ -12,12 +12,14 @@ use lib.Ieee.{Float}
 use borrow.Author.Tests.{eqb-true, eq-eqb, ne-eqb, not-false}
 use Rattle.leaves.specs.Reply.{Reply, answered, refused}
 use Rattle.leaves.specs.Tests.{firstOf, outside}
-use Rattle.leaves.specs.Norm.{norm}
+use Rattle.leaves.specs.Norm.{norm, either, rangesOf}
+use Rattle.leaves.specs.declared.norm.Ranges.{Ranges}
+use Rattle.leaves.proofs.Seen.{rangesOf-append}
 use Rattle.leaves.specs.Triangle.{columns}
-use Rattle.leaves.specs.Loop.{upto}
+use Rattle.leaves.specs.Loop.{upto, along}
 use Rattle.leaves.proofs.Triangles.{column-at}
 use Rattle.leaves.proofs.Refusals.{passed-iff, call-refused, call-worked}
-use Rattle.reduce.specs.Reduction.{Reduction, start, reduction-of, reduced as reducedAt}
+use Rattle.reduce.specs.Reduction.{Reduction, start, reduction-of, reduced as reducedAt, measuredAt, measured}
 use Rattle.reduce.specs.inner.Bench.{grid, Benched, underWay, Reduces}
 use Rattle.reduce.specs.Reduced.{Reduced, reducedAs, flat, reduceTests, reduceCall}
 use Rattle.reduce.proofs.Begins.{take-columns}
@@ -128,7 +130,7 @@ module _ (m n : ℕ) (jac res v₀ d₀ : List Float) (o₀ : List ℕ) (b₀ : 
   tests = firstOf (reduceTests m n (length jac) (length res) (length v₀) (length d₀) (length o₀) (length b₀))
 
   abbrev worked : Reduced
-  worked = let f = reduction-of m n (columns m n jac) res in reducedAs (answered tt) (map norm (columns m n jac)) (f .diag) (f .order) (flat (f .cols) ++ f .rhs)
+  worked = let f = reduction-of m n (columns m n jac) res in reducedAs (answered (rangesOf (measured m n (columns m n jac) res))) (map norm (columns m n jac)) (f .diag) (f .order) (flat (f .cols) ++ f .rhs)
 
   pub call-refuses : (c : ℕ) → c ≡ tests → (c ≡ 0 → ⊥) → reducedAs (refused c) v₀ d₀ o₀ b₀ ≡ reduceCall m n jac res v₀ d₀ o₀ b₀
   unfolding reduceCall
@@ -139,31 +141,39 @@ module _ (m n : ℕ) (jac res v₀ d₀ : List Float) (o₀ : List ℕ) (b₀ : 
   call-works e = call-worked worked (λ (k : ℕ). reducedAs (refused k) v₀ d₀ o₀ b₀) _ e
 
   -- what the working leaves: begun on the bench, and reduced column by column
-  pub call-works-out : (v d₁ w₁ x₁ b₁ d w b : List Float) (o₁ o : List ℕ) → tests ≡ 0 → v ≡ map norm (columns m n jac)
+  pub call-works-out : (v d₁ w₁ x₁ b₁ d w b : List Float) (o₁ o : List ℕ) (seen all : Ranges) → tests ≡ 0 → v ≡ map norm (columns m n jac)
       → underWay m n b₁ d₁ w₁ o₁ ≡ start (columns m n jac) (take m res) → x₁ ≡ w₁ → underWay m n b d w o ≡ upto (reducedAt n) (min m n) (underWay m n b₁ d₁ x₁ o₁)
-      → length b ≡ length b₀ → reducedAs (answered tt) v d o b ≡ reduceCall m n jac res v₀ d₀ o₀ b₀
-  unfolding reduction-of
-  call-works-out v d₁ w₁ x₁ b₁ d w b o₁ o t hv h₁ ew h₂ lb =
+      → seen ≡ rangesOf (columns m n jac) → all ≡ either seen (rangesOf (along (measuredAt n) (reducedAt n) (min m n) (underWay m n b₁ d₁ x₁ o₁))) → length b ≡ length b₀ → reducedAs (answered all) v d o b ≡ reduceCall m n jac res v₀ d₀ o₀ b₀
+  unfolding reduction-of measured
+  call-works-out v d₁ w₁ x₁ b₁ d w b o₁ o seen all t hv h₁ ew h₂ hs ha lb =
       let l = lengths m n (length jac) (length res) (length v₀) (length d₀) (length o₀) (length b₀) t in
       let f : Reduction = reduction-of m n (columns m n jac) res in
       let same : take m res ≡ res = take-all m res (le-of-eq (l .res-long)) in
       let from : underWay m n b₁ d₁ x₁ o₁ ≡ start (columns m n jac) res = ap (λ (x : List Float). underWay m n b₁ d₁ x o₁) ew ∙ h₁ ∙ ap (start (columns m n jac)) same in
       let e : underWay m n b d w o ≡ f = h₂ ∙ ap (upto (reducedAt n) (min m n)) from in
-      let whole = benched b (inside m n (l .sizes)) (lb ∙ l .bench-long) .whole in
-      let hb : b ≡ flat (f .cols) ++ f .rhs = sym (bench-whole m n b whole) ∙ ap (λ (x : Reduction). flat (x .cols) ++ x .rhs) e in
+      let full = benched b (inside m n (l .sizes)) (lb ∙ l .bench-long) .whole in
+      let hb : b ≡ flat (f .cols) ++ f .rhs = sym (bench-whole m n b full) ∙ ap (λ (x : Reduction). flat (x .cols) ++ x .rhs) e in
       let hd : d ≡ f .diag = ap (λ (x : Reduction). x .diag) e in
       let ho : o ≡ f .order = ap (λ (x : Reduction). x .order) e in
-      let all : reducedAs (answered tt) v d o b ≡ worked = rw (hv, hd, ho, hb) in
-      all ∙ call-works t
+      let told : all ≡ rangesOf (measured m n (columns m n jac) res) =
+      ha ∙ ap (λ (x : Ranges). either x (rangesOf (along (measuredAt n) (reducedAt n) (min m n) (underWay m n b₁ d₁ x₁ o₁)))) hs
+      ∙ ap (λ (x : Reduction). either (rangesOf (columns m n jac)) (rangesOf (along (measuredAt n) (reducedAt n) (min m n) x))) from
+      ∙ sym (rangesOf-append (columns m n jac) (along (measuredAt n) (reducedAt n) (min m n) (start (columns m n jac) res))) in
+      let whole : reducedAs (answered all) v d o b ≡ worked = rw (told, hv, hd, ho, hb) in
+      whole ∙ call-works t
 
 -- at the start r_diag has the norms of the columns as they stand
 pub start-norms : (m n : ℕ) (b d w : List Float) (o : List ℕ) (cs : List (List Float)) (r : List Float) → underWay m n b d w o ≡ start cs r → d ≡ map norm (take n (grid m n b))
 unfolding start
 start-norms m n b d w o cs r e = ap (λ (x : Reduction). x .diag) e ∙ sym (ap (λ (x : Reduction). map norm (x .cols)) e)
 
+pub start-seen : (m n : ℕ) (b d w : List Float) (o : List ℕ) (cs : List (List Float)) (r : List Float) {seen : Ranges} → underWay m n b d w o ≡ start cs r → seen ≡ rangesOf cs → seen ≡ rangesOf (take n (grid m n b))
+unfolding start
+start-seen m n b d w o cs r e h = h ∙ sym (ap (λ (x : Reduction). rangesOf (x .cols)) e)
+
 -- ---- for callers: what stands in the lent slices after a reduction whose sizes and lengths fit
-pub reduces : (m n : ℕ) (jac res v₀ v d₀ d : List Float) (o₀ o : List ℕ) (b₀ b : List Float) {r : Reply (Unit {0})} → outside m n ≡ false → length jac ≡ m * n → length res ≡ m
-    → length v₀ ≡ n → length d₀ ≡ n → length o₀ ≡ n → length b₀ ≡ m * n + m → reducedAs r v d o b ≡ reduceCall m n jac res v₀ d₀ o₀ b₀ → Reduces m n jac res v d o b
+pub reduces : (m n : ℕ) (jac res v₀ v d₀ d : List Float) (o₀ o : List ℕ) (b₀ b : List Float) {r : Reply Ranges} → outside m n ≡ false → length jac ≡ m * n → length res ≡ m
+    → length v₀ ≡ n → length d₀ ≡ n → length o₀ ≡ n → length b₀ ≡ m * n + m → reducedAs r v d o b ≡ reduceCall m n jac res v₀ d₀ o₀ b₀ → Reduces m n jac res r v d o b
 reduces m n jac res v₀ v d₀ d o₀ o b₀ b {r = r} hs hj hr hv hd ho hb e =
     let t = fitting m n (length jac) (length res) (length v₀) (length d₀) (length o₀) (length b₀) (record { sizes = hs; jac-long = hj; res-long = hr; norms-long = hv; diag-long = hd; order-long = ho; bench-long = hb }) in
     let w : reducedAs r v d o b ≡ worked m n jac res v₀ d₀ o₀ b₀ = e ∙ sym (call-works m n jac res v₀ d₀ o₀ b₀ t) in
@@ -174,6 +184,7 @@ reduces m n jac res v₀ v d₀ d o₀ o b₀ b {r = r} hs hj hr hv hd ho hb e =
     let back : columns m n (flat (f .cols) ++ f .rhs) ≡ f .cols = ap (λ (k : ℕ). columns m k (flat (f .cols) ++ f .rhs)) (sym (fits .cols-wide)) ∙ columns-flat m (f .cols) (f .rhs) tall in
     let far : length (flat (f .cols)) ≡ n * m = flat-long m (f .cols) tall ∙ ap (λ (k : ℕ). k * m) (fits .cols-wide) in
     record {
+      reply = ap (λ (x : Reduced). x .reply) w;
       norms = ap (λ (x : Reduced). x .norms) w;
       cols = take-columns m n b ∙ ap (columns m n) whole ∙ back;
       rhs = column-at m (suc n) n b (le-refl (suc n)) ∙ ap (λ (x : List Float). take m (drop (n * m) x)) whole

@@ -11,13 +11,15 @@ use lib.Seq.{getD-take, getD-set-same, getD-set-other, take-set-lt, take-set-le,
 use lib.Ieee.{Float, nan, neg, lt, eq}
 use borrow.Author.Tests.{eq-eqb, ne-eqb, eqb-true, eqb-false}
 use Rattle.leaves.specs.Number.{plusZero}
-use Rattle.leaves.specs.Norm.{norm}
+use Rattle.leaves.specs.Norm.{norm, either, ranges, rangesOf}
+use Rattle.leaves.specs.declared.norm.Ranges.{Ranges}
+use Rattle.leaves.proofs.Seen.{either-none, either-more, rangesOf-has}
 use Rattle.leaves.specs.Reply.{answered}
 use Rattle.leaves.specs.Vector.{imaxFrom, imaxOf, imax}
 use Rattle.leaves.specs.Triangle.{columns}
 use Rattle.leaves.proofs.Folds.{front, front-step, front-end}
-use Rattle.leaves.specs.Loop.{between}
-use Rattle.reduce.specs.Reduction.{Reduction, reduction, swap, pivoted, axisBy, reflectFrom, later, signed, withDiag, withRhs, reflected, reduced}
+use Rattle.leaves.specs.Loop.{between, alongBetween}
+use Rattle.reduce.specs.Reduction.{Reduction, reduction, swap, pivoted, axisBy, reflectFrom, later, signed, withDiag, withRhs, reflected, reduced, measuredLater, measuredReflected, measuredAt}
 use Rattle.reduce.specs.inner.Bench.{swapPlace, swept}
 use Rattle.leaves.proofs.Loops.{between-keeps}
 use Rattle.leaves.proofs.Grids.{grid-read, grid-write}
@@ -127,28 +129,37 @@ pivot-stays j r e =
     let z : j + imaxOf (drop j (r .diag)) ≡ j = omega arith in
     rw (eq-eqb _ _ z, pivoted)
 
--- at j = 0 the largest of r_diag is the norm of the column that the pivot brings to place 0
-pub first-norm : (r : Reduction) → 0 < length (r .cols) → r .diag ≡ map norm (r .cols) → getD (r .diag) (imaxOf (r .diag)) nan ≡ norm (getD (pivoted 0 r .cols) 0 [])
-unfolding pivoted swap
-first-norm r h e = ap (λ (d : List Float). getD d k nan) e ∙ norms-at (r .cols) k below ∙ by (eqb (0 + k) 0) refl
-  where
-    k : ℕ
-    k = imaxOf (r .diag)
+-- at j = 0 the pivot brings to place 0 the column of r_diag's largest, whose norm and flags are known already
+module _ (r : Reduction) (h : 0 < length (r .cols)) (e : r .diag ≡ map norm (r .cols)) where
+  abbrev k : ℕ
+  k = imaxOf (r .diag)
 
-    here : 0 + k ≡ k
-    here = omega arith
+  below : k < length (r .cols)
+  below = let l = ap length e ∙ length-map (r .cols) norm in let p = imax-place (r .diag) (omega arith) in omega arith
 
-    below : k < length (r .cols)
-    below = let l = ap length e ∙ length-map (r .cols) norm in let p = imax-place (r .diag) (omega arith) in omega arith
+  first-column : getD (r .cols) k [] ≡ getD (pivoted 0 r .cols) 0 []
+  unfolding pivoted swap
+  first-column = by (eqb (0 + k) 0) refl
+    where
+      here : 0 + k ≡ k
+      here = omega arith
 
-    by : (b : Bool) → eqb (0 + k) 0 ≡ b
-        → norm (getD (r .cols) k []) ≡ norm (getD ((cond b r (reduction (swap [] 0 (0 + k) (r .cols)) (set (r .diag) (0 + k) (getD (r .diag) 0 nan)) (set (r .work) (0 + k) (getD (r .work) 0 nan)) (swap 0 0 (0 + k) (r .order)) (r .rhs))) .cols) 0 [])
-    by true f = ap (λ (i : ℕ). norm (getD (r .cols) i [])) (sym here ∙ eqb-true (0 + k) 0 f)
-    by false f = ap norm (sym (
-        getD-set-other (set (r .cols) 0 (getD (r .cols) (0 + k) [])) (0 + k) 0 (getD (r .cols) 0 []) [] (λ (z : 0 ≡ 0 + k). eqb-false (0 + k) 0 f (sym z))
-        ∙ getD-set-same (r .cols) 0 (getD (r .cols) (0 + k) []) [] h
-        ∙ ap (λ (i : ℕ). getD (r .cols) i []) here
-        ))
+      by : (b : Bool) → eqb (0 + k) 0 ≡ b
+          → getD (r .cols) k [] ≡ getD ((cond b r (reduction (swap [] 0 (0 + k) (r .cols)) (set (r .diag) (0 + k) (getD (r .diag) 0 nan)) (set (r .work) (0 + k) (getD (r .work) 0 nan)) (swap 0 0 (0 + k) (r .order)) (r .rhs))) .cols) 0 []
+      by true f = ap (λ (i : ℕ). getD (r .cols) i []) (sym here ∙ eqb-true (0 + k) 0 f)
+      by false f = sym (
+          getD-set-other (set (r .cols) 0 (getD (r .cols) (0 + k) [])) (0 + k) 0 (getD (r .cols) 0 []) [] (λ (z : 0 ≡ 0 + k). eqb-false (0 + k) 0 f (sym z))
+          ∙ getD-set-same (r .cols) 0 (getD (r .cols) (0 + k) []) [] h
+          ∙ ap (λ (i : ℕ). getD (r .cols) i []) here
+          )
+
+  pub first-norm : getD (r .diag) k nan ≡ norm (getD (pivoted 0 r .cols) 0 [])
+  first-norm = ap (λ (d : List Float). getD d k nan) e ∙ norms-at (r .cols) k below ∙ ap norm first-column
+
+  pub first-seen : {seen : Ranges} → seen ≡ rangesOf (r .cols) → seen ≡ either seen (ranges (getD (pivoted 0 r .cols) 0 []))
+  first-seen {seen} s =
+      s ∙ sym (rangesOf-has (r .cols) k below) ∙ ap (λ (c : List Float). either (rangesOf (r .cols)) (ranges c)) first-column
+      ∙ ap (λ (x : Ranges). either x (ranges (getD (pivoted 0 r .cols) 0 []))) (sym s)
 
 -- ---- a column reduced
 pub last-column : (n : ℕ) (g g′ : List (List Float)) (y d w : List Float) (o : List ℕ) → length g ≡ suc n → g′ ≡ set g n y
@@ -172,6 +183,12 @@ pub reflected-by : (n j : ℕ) (s t : Float) (axis c : List Float) (r : Reductio
 unfolding reflected swept
 reflected-by n j s t axis c r ec et ea = rw (ea, et, ec)
 
+-- and what is measured for it
+pub reflected-sees : (n j : ℕ) (s t : Float) (axis c : List Float) (r : Reduction) (seen : Ranges) → c ≡ drop j (getD (r .cols) j []) → t ≡ signed s c → axis ≡ axisBy t c
+    → either seen (rangesOf (alongBetween (measuredLater j axis) (later j axis) (suc j) n (withDiag j (neg t) r))) ≡ either seen (rangesOf (measuredReflected n j s r))
+unfolding measuredReflected
+reflected-sees n j s t axis c r seen ec et ea = rw (ea, et, ec)
+
 pub reduced-zero : (n j : ℕ) (r p : Reduction) (s : Float) → p ≡ pivoted j r → s ≡ norm (drop j (getD (p .cols) j [])) → eq s plusZero ≡ true → withDiag j plusZero p ≡ reduced n j r
 unfolding reduced
 reduced-zero n j r p s ep es t =
@@ -183,3 +200,20 @@ unfolding reduced
 reduced-by n j r p u s ep es t e =
     let f : eq (norm (drop j (getD (pivoted j r .cols) j []))) plusZero ≡ false = rw (es, ep) at t in
     e ∙ rw (es, ep, f, reduced)
+
+-- the flags of the pivot column, and of what its reflection measures
+pub measured-zero : (n j : ℕ) (r p : Reduction) (s : Float) (seen : Ranges) {seen′ : Ranges} → p ≡ pivoted j r → s ≡ norm (drop j (getD (p .cols) j [])) → eq s plusZero ≡ true
+    → seen′ ≡ either seen (ranges (drop j (getD (p .cols) j []))) → seen′ ≡ either seen (rangesOf (measuredAt n j r))
+unfolding measuredAt rangesOf
+measured-zero n j r p s seen ep es t h =
+    let f : eq (norm (drop j (getD (pivoted j r .cols) j []))) plusZero ≡ true = rw (es, ep) at t in
+    h ∙ ap (λ (q : Reduction). either seen (ranges (drop j (getD (q .cols) j [])))) ep ∙ ap (either seen) (sym (rw (f, measuredAt) (either-none (ranges (drop j (getD (pivoted j r .cols) j []))))))
+
+pub measured-by : (n j : ℕ) (r p : Reduction) (s : Float) (seen : Ranges) {all seen′ : Ranges} → p ≡ pivoted j r → s ≡ norm (drop j (getD (p .cols) j [])) → eq s plusZero ≡ false
+    → all ≡ either seen (ranges (drop j (getD (p .cols) j []))) → seen′ ≡ either all (rangesOf (measuredReflected n j s p)) → seen′ ≡ either seen (rangesOf (measuredAt n j r))
+unfolding measuredAt rangesOf
+measured-by n j r p s seen ep es t ha h =
+    let f : eq (norm (drop j (getD (pivoted j r .cols) j []))) plusZero ≡ false = rw (es, ep) at t in
+    h ∙ ap (λ (x : Ranges). either x (rangesOf (measuredReflected n j s p))) ha
+    ∙ either-more seen (ranges (drop j (getD (p .cols) j []))) (rangesOf (measuredReflected n j s p))
+    ∙ rw (es, ep) (sym (rw (f, measuredAt) refl))

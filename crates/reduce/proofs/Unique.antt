@@ -5,20 +5,20 @@ use denote.Ref.{now}
 use borrow.Fn.World.{ArgsD}
 use borrow.Fn.Kinds.{endedOf}
 use denote.Triple.Clauses.{AtExit}
-use Rattle.leaves.specs.declared.reply.Done.{Done}
-use Rattle.leaves.proofs.Replies.{doneOf-same}
+use Rattle.leaves.specs.declared.reply.Ranged.{Ranged}
+use Rattle.leaves.proofs.Replies.{rangedOf-same}
 use Rattle.reduce.specs.Reduced.{Reduced}
 use Rattle.reduce.proofs.bench.reduce_bench.{signature as reduce-bench-signature}
 use Rattle.reduce.proofs.bench.reduce_bench.Reads as reduce-bench
 use Rattle.reduce.proofs.bench.reduce_bench.Kinds as reduce-bench-kinds
 
 -- the answer, the norms, R's diagonal, the order and the bench
-pub reduce-bench-one-outcome : (κs : Lfts 6) (a : ArgsD reduce-bench-signature κs) (r₁ r₂ : Done) (s₁ s₂ : AtExit (endedOf 6 reduce-bench-kinds.ps reduce-bench-kinds.r) κs)
+pub reduce-bench-one-outcome : (κs : Lfts 6) (a : ArgsD reduce-bench-signature κs) (r₁ r₂ : Ranged) (s₁ s₂ : AtExit (endedOf 6 reduce-bench-kinds.ps reduce-bench-kinds.r) κs)
     → reduce-bench.Post κs a r₁ s₁ → reduce-bench.Post κs a r₂ s₂
     → (r₁ ≡ r₂) × (now (s₁ .1 .1 .1 .1 .0) ≡ now (s₂ .1 .1 .1 .1 .0)) × (now (s₁ .1 .1 .1 .1 .1 .0) ≡ now (s₂ .1 .1 .1 .1 .1 .0)) × (now (s₁ .1 .1 .1 .1 .1 .1 .0) ≡ now (s₂ .1 .1 .1 .1 .1 .1 .0)) × (now (s₁ .1 .1 .1 .1 .1 .1 .1 .0) ≡ now (s₂ .1 .1 .1 .1 .1 .1 .1 .0))
 reduce-bench-one-outcome κs a r₁ r₂ s₁ s₂ p q =
     let e = p ∙ sym q in (
-      doneOf-same r₁ r₂ (ap (λ (x : Reduced). x .reply) e),
+      rangedOf-same r₁ r₂ (ap (λ (x : Reduced). x .reply) e),
       ap (λ (x : Reduced). x .norms) e,
       ap (λ (x : Reduced). x .diag) e,
       ap (λ (x : Reduced). x .order) e,

@@ -7,19 +7,20 @@ use lib.ListN.{length}
 use lib.Ieee.{Float}
 use Rattle.leaves.specs.Reply.{Reply, answered, refused}
 use Rattle.leaves.specs.Tests.{Test, firstOf, outside}
-use Rattle.leaves.specs.Norm.{norm}
+use Rattle.leaves.specs.Norm.{norm, rangesOf}
+use Rattle.leaves.specs.declared.norm.Ranges.{Ranges}
 use Rattle.leaves.specs.Triangle.{columns}
-use Rattle.reduce.specs.Reduction.{reduction-of}
+use Rattle.reduce.specs.Reduction.{reduction-of, measured}
 
 -- the answer, and every lent slice
 pub record Reduced : Type 0 where
-  pub reply : Reply (Unit {0})
+  pub reply : Reply Ranges
   pub norms : List Float
   pub diag : List Float
   pub order : List ℕ
   pub bench : List Float
 
-abbrev pub reducedAs : Reply (Unit {0}) → List Float → List Float → List ℕ → List Float → Reduced
+abbrev pub reducedAs : Reply Ranges → List Float → List Float → List ℕ → List Float → Reduced
 reducedAs a v d o b = record { reply = a; norms = v; diag = d; order = o; bench = b }
 
 -- columns one after the other
@@ -34,12 +35,12 @@ reduceTests m n jacobian residuals norms diag order bench =
     ∷ (not (eqb jacobian (m * n) && eqb residuals m && eqb norms n && eqb diag n && eqb order n && eqb bench (m * n + m)), 3)
     ∷ []
 
--- The column norms, R's diagonal and the order; the bench has the reduced columns, whose upper ends are R's, and then the residuals.
+-- Answered with the flags of every norm worked out (02, #106). The column norms, R's diagonal and the order; the bench has the reduced columns, whose upper ends are R's, and then the residuals.
 unfoldable pub reduceCall : ℕ → ℕ → List Float → List Float → List Float → List Float → List ℕ → List Float → Reduced
 reduceCall m n jacobian residuals norms diag order bench =
     let c = firstOf (reduceTests m n (length jacobian) (length residuals) (length norms) (length diag) (length order) (length bench)) in
     let f = reduction-of m n (columns m n jacobian) residuals in
     elim (eqb c 0) [
-      | true ↦ reducedAs (answered tt) (map norm (columns m n jacobian)) (f .diag) (f .order) (flat (f .cols) ++ f .rhs)
+      | true ↦ reducedAs (answered (rangesOf (measured m n (columns m n jacobian) residuals))) (map norm (columns m n jacobian)) (f .diag) (f .order) (flat (f .cols) ++ f .rhs)
       | false ↦ reducedAs (refused c) norms diag order bench
     ]

@@ -1,7 +1,7 @@
 -- 01, modules 2 and 3: factoring with column pivoting, and the transformed residuals.
 use Prim.Native.Nat.{ℕ, suc, _+_, min}
 use mathlib.Core.Bool.{false, cond}
-use mathlib.Core.List.{List, [], _++_, map}
+use mathlib.Core.List.{List, [], _∷_, _++_, map}
 use lib.Dec.{eqb}
 use lib.ListN.{length, take, drop, getD, set}
 use lib.Ieee.{Float, nan, binary64, add, sub, mul, div, neg, eq, le, round}
@@ -9,7 +9,7 @@ use Rattle.leaves.specs.Number.{plusZero, one, isNegative, maxOf, squareOf, eps
 use Rattle.leaves.specs.Vector.{dotOf, axpyAll, imaxOf}
 use Rattle.leaves.specs.Norm.{norm}
 use Rattle.leaves.specs.Root.{rootS}
-use Rattle.leaves.specs.Loop.{upto, between, countFrom}
+use Rattle.leaves.specs.Loop.{upto, between, along, alongBetween, countFrom}
 
 -- a factoring under way: the columns as they stand, R's diagonal and the norms it is measured against, the order, the residuals
 pub record Reduction : Type 0 where
@@ -98,3 +98,35 @@ start cols residuals = reduction cols (map norm cols) (map norm cols) (countFrom
 
 unfoldable pub reduction-of : ℕ → ℕ → List (List Float) → List Float → Reduction
 reduction-of m n cols residuals = upto (reduced n) (min m n) (start cols residuals)
+
+-- ---- 02, #106: the vectors whose norms a factoring works out, in their order
+-- a later column's rest only where its norm is worked out anew, which is where `renewed` takes it
+unfoldable pub remeasured : Float → Float → Float → List Float → List (List Float)
+remeasured d w x rest =
+    cond (eq d plusZero)
+    []
+    (cond (le (mul binary64 twentieth (squareOf (div binary64 (shrunk d x) w))) epsmch) (rest ∷ []) [])
+
+-- of column k, later than j
+unfoldable pub measuredLater : ℕ → List Float → ℕ → Reduction → List (List Float)
+measuredLater j axis k r =
+    let c = reflectFrom j axis (getD (r .cols) k []) in
+    remeasured (getD (r .diag) k nan) (getD (r .work) k nan) (getD c j nan) (drop (suc j) c)
+
+-- of all later columns, by the reflection of column j, whose norm from row j on is s
+unfoldable pub measuredReflected : ℕ → ℕ → Float → Reduction → List (List Float)
+measuredReflected n j s r =
+    let c = drop j (getD (r .cols) j []) in
+    let axis = axisBy (signed s c) c in
+    alongBetween (measuredLater j axis) (later j axis) (suc j) n (withDiag j (neg (signed s c)) r)
+
+-- at each j the pivot column from row j on, and then the later columns
+unfoldable pub measuredAt : ℕ → ℕ → Reduction → List (List Float)
+measuredAt n j r =
+    let p = pivoted j r in
+    let c = drop j (getD (p .cols) j []) in
+    c ∷ cond (eq (norm c) plusZero) [] (measuredReflected n j (norm c) p)
+
+-- each column, and then what each step measures
+unfoldable pub measured : ℕ → ℕ → List (List Float) → List Float → List (List Float)
+measured m n cols residuals = cols ++ along (measuredAt n) (reduced n) (min m n) (start cols residuals)

@@ -1,13 +1,16 @@
 // Document 01, module 2: what factoring starts from.
 use crate::reduce::norm_from;
 use crate::wrap::copy_of;
+use leaves::norm::Ranges;
+use leaves::norm::either;
+use leaves::norm::neither;
 use leaves::pieces::copy_long;
 use leaves::vector::count;
 ghost use mathlib.Core.Path.{_≡_};
 ghost use mathlib.Core.List.{_++_, map};
 ghost use Prim.Native.Nat.{_+_, _*_, _<_, _≤_};
 ghost use lib.ListN.{length, take};
-ghost use Rattle.leaves.specs.Norm.{norm};
+ghost use Rattle.leaves.specs.Norm.{norm, rangesOf};
 ghost use Rattle.leaves.specs.Triangle.{columns};
 ghost use Rattle.reduce.specs.Reduction.{start};
 ghost use Rattle.reduce.specs.inner.Bench.{grid, Benched, underWay};
@@ -24,17 +27,24 @@ fn copy_in(m: usize, n: usize, jacobian: &[f64], residuals: &[f64], bench: &mut 
     copy_of(&residuals[..m], &mut bench[p..e]);
 }
 
-fn norms_in(m: usize, n: usize, bench: &[f64], norms: &mut [f64])
+// The norms of the columns, and the ranges that took part in them.
+fn norms_in(m: usize, n: usize, bench: &[f64], norms: &mut [f64]) -> Ranges
     requires { ⌜ Benched m n (now bench) ⌝ }
     requires { ⌜ 0 < m ⌝ }
     requires { ⌜ length (now norms) ≡ n ⌝ }
     ensures { λ _. ⌜ now (norms .exit) ≡ map norm (take n (grid m n (now (bench .entry)))) ⌝ }
+    ensures { λ r. ⌜ r ≡ rangesOf (take n (grid m n (now (bench .entry)))) ⌝ }
 {
+    let mut seen = neither();
     let mut k = 0;
     while k < n {
-        norms[k] = norm_from(m, n, k, 0, bench);
+        let s = norm_from(m, n, k, 0, bench);
+        norms[k] = s.norm;
+        let more = s.seen;
+        seen = either(seen, more);
         k += 1;
     }
+    seen
 }
 
 pub(crate) fn begin(
@@ -47,7 +57,7 @@ pub(crate) fn begin(
     work: &mut [f64],
     order: &mut [usize],
     bench: &mut [f64],
-)
+) -> Ranges
     requires { ⌜ Benched m n (now bench) ⌝ }
     requires { ⌜ 0 < m ⌝ }
     requires { ⌜ m * n ≤ length (now jacobian) ⌝ }
@@ -58,10 +68,12 @@ pub(crate) fn begin(
     requires { ⌜ length (now order) ≡ n ⌝ }
     ensures { λ _. ⌜ now (norms .exit) ≡ map norm (columns m n (now (jacobian .entry))) ⌝ }
     ensures { λ _. ⌜ underWay m n (now (bench .exit)) (now (diag .exit)) (now (work .exit)) (now (order .exit)) ≡ start (columns m n (now (jacobian .entry))) (take m (now (residuals .entry))) ⌝ }
+    ensures { λ r. ⌜ r ≡ rangesOf (columns m n (now (jacobian .entry))) ⌝ }
 {
     copy_in(m, n, jacobian, residuals, bench);
-    norms_in(m, n, bench, norms);
+    let seen = norms_in(m, n, bench, norms);
     copy_of(norms, diag);
     copy_of(norms, work);
     count(order);
+    seen
 }

@@ -1,12 +1,12 @@
 // Document 01, modules 2 and 3: the reduction on lent slices.
 use crate::beginning::begin;
 use crate::reduce::reduce;
-use leaves::reply::Done;
+use leaves::reply::Ranged;
 use leaves::sizes::outside;
 use leaves::sizes::room16;
 ghost use mathlib.Core.Path.{_≡_};
 ghost use lib.ListN.{length};
-ghost use Rattle.leaves.specs.Reply.{doneOf};
+ghost use Rattle.leaves.specs.Reply.{rangedOf};
 ghost use Rattle.leaves.specs.Tests.{firstOf};
 ghost use Rattle.reduce.specs.Reduced.{reducedAs, reduceTests, reduceCall};
 
@@ -55,6 +55,7 @@ fn check(
 // on exit the norms of the Jacobian's columns. diag: n numbers, not read; on exit R's diagonal, min(m, n) of them by reflections. order: n
 // places, not read; on exit the column that stands at each. bench: m·n + m numbers, not read; on exit the reduced columns, column k with
 // R's first k, and then the transformed residuals.
+// Answers the ranges that took part in any norm worked out for it (02, #106).
 // Refused 2 for m outside 1 to 128 or n outside 1 to 16, 3 where a slice is not of its exact length; every slice is then as it was.
 pub fn reduce_bench(
     m: usize,
@@ -65,8 +66,8 @@ pub fn reduce_bench(
     diag: &mut [f64],
     order: &mut [usize],
     bench: &mut [f64],
-) -> Done
-    ensures { λ r. ⌜ reducedAs (doneOf r) (now (norms .exit)) (now (diag .exit)) (now (order .exit)) (now (bench .exit)) ≡ reduceCall m n (now (jacobian .entry)) (now (residuals .entry)) (now (norms .entry)) (now (diag .entry)) (now (order .entry)) (now (bench .entry)) ⌝ }
+) -> Ranged
+    ensures { λ r. ⌜ reducedAs (rangedOf r) (now (norms .exit)) (now (diag .exit)) (now (order .exit)) (now (bench .exit)) ≡ reduceCall m n (now (jacobian .entry)) (now (residuals .entry)) (now (norms .entry)) (now (diag .entry)) (now (order .entry)) (now (bench .entry)) ⌝ }
 {
     let c = check(
         m,
@@ -79,11 +80,11 @@ pub fn reduce_bench(
         bench.len(),
     );
     if c != 0 {
-        return Done::Refused(c);
+        return Ranged::Refused(c);
     }
     let mut work = room16();
     let mut axis = room128();
-    begin(
+    let seen = begin(
         m,
         n,
         jacobian,
@@ -94,6 +95,14 @@ pub fn reduce_bench(
         order,
         bench,
     );
-    reduce(m, n, bench, diag, &mut work[..n], order, &mut axis[..]);
-    Done::Written
+    Ranged::Seen(reduce(
+        m,
+        n,
+        bench,
+        diag,
+        &mut work[..n],
+        order,
+        &mut axis[..],
+        seen,
+    ))
 }

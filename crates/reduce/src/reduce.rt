@@ -5,18 +5,21 @@ use crate::reflect::make_axis;
 use crate::reflect::reflect_column;
 use crate::reflect::row_at;
 use crate::reflect::signed;
+use crate::wrap::NormSeen;
 use crate::wrap::imax_of;
 use crate::wrap::norm_of;
+use leaves::norm::Ranges;
+use leaves::norm::either;
 use leaves::sizes::least;
 ghost use mathlib.Core.Path.{_≡_};
 ghost use Prim.Native.Nat.{_+_, _-_, _<_, min};
 ghost use lib.ListN.{length, getD, set, take, drop};
 ghost use mathlib.Core.List.{[], map};
 ghost use lib.Ieee.{nan};
-ghost use Rattle.leaves.specs.Norm.{norm};
-ghost use Rattle.leaves.specs.Loop.{upto};
-ghost use Rattle.reduce.specs.Reduction.{swap, pivoted, axisBy, signed as signedOf, reflected, reduced};
-ghost use Rattle.reduce.specs.inner.Bench.{grid, Benched, underWay, Steps, swapPlace};
+ghost use Rattle.leaves.specs.Norm.{norm, either as eitherOf, ranges, rangesOf};
+ghost use Rattle.leaves.specs.Loop.{upto, along};
+ghost use Rattle.reduce.specs.Reduction.{swap, pivoted, axisBy, signed as signedOf, reflected, reduced, measuredReflected, measuredAt};
+ghost use Rattle.reduce.specs.inner.Bench.{grid, Benched, underWay, Steps, Sees, swapPlace};
 
 fn swap_places(m: usize, n: usize, j: usize, k: usize, i: usize, bench: &mut [f64])
     requires { ⌜ Benched m n (now bench) ⌝ }
@@ -112,7 +115,8 @@ fn reflect_from(
     diag: &mut [f64],
     work: &mut [f64],
     axis: &mut [f64],
-)
+    seen: Ranges,
+) -> Ranges
     requires { ⌜ Benched m n (now bench) ⌝ }
     requires { ⌜ j < n ⌝ }
     requires { ⌜ j < m ⌝ }
@@ -120,18 +124,21 @@ fn reflect_from(
     requires { ⌜ length (now work) ≡ n ⌝ }
     requires { ⌜ length (now axis) ≡ m - j ⌝ }
     ensures { λ _. ⌜ Steps m n (reflected n j s) (now (bench .entry)) (now (diag .entry)) (now (work .entry)) (now (bench .exit)) (now (diag .exit)) (now (work .exit)) ⌝ }
+    ensures { λ r. ⌜ Sees m n (measuredReflected n j s) (now (bench .entry)) (now (diag .entry)) (now (work .entry)) seen r ⌝ }
 {
     let t = axis_of(m, n, j, s, bench, axis);
     diag[j] = -t;
-    later_columns(m, n, j, axis, bench, diag, work);
+    let all = later_columns(m, n, j, axis, bench, diag, work, seen);
     reflect_column(m, n, j, n, axis, bench);
+    all
 }
 
-pub(crate) fn norm_from(m: usize, n: usize, k: usize, j: usize, bench: &[f64]) -> f64
+pub(crate) fn norm_from(m: usize, n: usize, k: usize, j: usize, bench: &[f64]) -> NormSeen
     requires { ⌜ Benched m n (now bench) ⌝ }
     requires { ⌜ k < n ⌝ }
     requires { ⌜ j < m ⌝ }
-    ensures { λ r. ⌜ r ≡ norm (drop j (getD (grid m n (now (bench .entry))) k [])) ⌝ }
+    ensures { λ r. ⌜ r .norm ≡ norm (drop j (getD (grid m n (now (bench .entry))) k [])) ⌝ }
+    ensures { λ r. ⌜ r .seen ≡ ranges (drop j (getD (grid m n (now (bench .entry))) k [])) ⌝ }
 {
     let a = row_at(m, n, k, j);
     let e = a + (m - j);
@@ -162,7 +169,7 @@ fn first_pivot(
     s
 }
 
-// The norm of the pivot column from row j on, once it stands at place j.
+// The norm of the pivot column from row j on, once it stands at place j, and all that is seen with it.
 fn pivot_norm(
     m: usize,
     n: usize,
@@ -171,7 +178,8 @@ fn pivot_norm(
     diag: &mut [f64],
     work: &mut [f64],
     order: &mut [usize],
-) -> f64
+    seen: Ranges,
+) -> NormSeen
     requires { ⌜ Benched m n (now bench) ⌝ }
     requires { ⌜ j < n ⌝ }
     requires { ⌜ j < m ⌝ }
@@ -179,14 +187,24 @@ fn pivot_norm(
     requires { ⌜ length (now work) ≡ n ⌝ }
     requires { ⌜ length (now order) ≡ n ⌝ }
     requires { ⌜ (j ≡ 0 → now diag ≡ map norm (take n (grid m n (now bench)))) ⌝ }
-    ensures { λ r. ⌜ r ≡ norm (drop j (getD (take n (grid m n (now (bench .exit)))) j [])) ⌝ }
+    requires { ⌜ (j ≡ 0 → seen ≡ rangesOf (take n (grid m n (now bench)))) ⌝ }
+    ensures { λ r. ⌜ r .norm ≡ norm (drop j (getD (take n (grid m n (now (bench .exit)))) j [])) ⌝ }
+    ensures { λ r. ⌜ r .seen ≡ eitherOf seen (ranges (drop j (getD (take n (grid m n (now (bench .exit)))) j []))) ⌝ }
     ensures { λ _. ⌜ underWay m n (now (bench .exit)) (now (diag .exit)) (now (work .exit)) (now (order .exit)) ≡ pivoted j (underWay m n (now (bench .entry)) (now (diag .entry)) (now (work .entry)) (now (order .entry))) ⌝ }
 {
     if j == 0 {
-        return first_pivot(m, n, bench, diag, work, order);
+        return NormSeen {
+            norm: first_pivot(m, n, bench, diag, work, order),
+            seen: seen,
+        };
     }
     pivot(m, n, j, bench, diag, work, order);
-    norm_from(m, n, j, j, bench)
+    let s = norm_from(m, n, j, j, bench);
+    let more = s.seen;
+    NormSeen {
+        norm: s.norm,
+        seen: either(seen, more),
+    }
 }
 
 // A zero reduced norm sets r_diag 0 and skips the reflection.
@@ -199,7 +217,8 @@ fn reduce_column(
     work: &mut [f64],
     order: &mut [usize],
     axis: &mut [f64],
-)
+    seen: Ranges,
+) -> Ranges
     requires { ⌜ Benched m n (now bench) ⌝ }
     requires { ⌜ j < n ⌝ }
     requires { ⌜ j < m ⌝ }
@@ -208,15 +227,18 @@ fn reduce_column(
     requires { ⌜ length (now order) ≡ n ⌝ }
     requires { ⌜ length (now axis) ≡ 128 ⌝ }
     requires { ⌜ (j ≡ 0 → now diag ≡ map norm (take n (grid m n (now bench)))) ⌝ }
+    requires { ⌜ (j ≡ 0 → seen ≡ rangesOf (take n (grid m n (now bench)))) ⌝ }
     ensures { λ _. ⌜ underWay m n (now (bench .exit)) (now (diag .exit)) (now (work .exit)) (now (order .exit)) ≡ reduced n j (underWay m n (now (bench .entry)) (now (diag .entry)) (now (work .entry)) (now (order .entry))) ⌝ }
+    ensures { λ r. ⌜ r ≡ eitherOf seen (rangesOf (measuredAt n j (underWay m n (now (bench .entry)) (now (diag .entry)) (now (work .entry)) (now (order .entry))))) ⌝ }
 {
-    let s = pivot_norm(m, n, j, bench, diag, work, order);
-    if s == 0.0 {
+    let s = pivot_norm(m, n, j, bench, diag, work, order, seen);
+    let all = s.seen;
+    if s.norm == 0.0 {
         diag[j] = 0.0;
-        return;
+        return all;
     }
     let len = m - j;
-    reflect_from(m, n, j, s, bench, diag, work, &mut axis[..len]);
+    reflect_from(m, n, j, s.norm, bench, diag, work, &mut axis[..len], all)
 }
 
 pub(crate) fn reduce(
@@ -227,19 +249,24 @@ pub(crate) fn reduce(
     work: &mut [f64],
     order: &mut [usize],
     axis: &mut [f64],
-)
+    seen: Ranges,
+) -> Ranges
     requires { ⌜ Benched m n (now bench) ⌝ }
     requires { ⌜ length (now diag) ≡ n ⌝ }
     requires { ⌜ length (now work) ≡ n ⌝ }
     requires { ⌜ length (now order) ≡ n ⌝ }
     requires { ⌜ length (now axis) ≡ 128 ⌝ }
     requires { ⌜ now diag ≡ map norm (take n (grid m n (now bench))) ⌝ }
+    requires { ⌜ seen ≡ rangesOf (take n (grid m n (now bench))) ⌝ }
     ensures { λ _. ⌜ underWay m n (now (bench .exit)) (now (diag .exit)) (now (work .exit)) (now (order .exit)) ≡ upto (reduced n) (min m n) (underWay m n (now (bench .entry)) (now (diag .entry)) (now (work .entry)) (now (order .entry))) ⌝ }
+    ensures { λ r. ⌜ r ≡ eitherOf seen (rangesOf (along (measuredAt n) (reduced n) (min m n) (underWay m n (now (bench .entry)) (now (diag .entry)) (now (work .entry)) (now (order .entry))))) ⌝ }
 {
     let top = least(m, n);
+    let mut all = seen;
     let mut j = 0;
     while j < top {
-        reduce_column(m, n, j, bench, diag, work, order, axis);
+        all = reduce_column(m, n, j, bench, diag, work, order, axis, all);
         j += 1;
     }
+    all
 }

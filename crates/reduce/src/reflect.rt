@@ -2,6 +2,8 @@
 use crate::wrap::axpy_of;
 use crate::wrap::dot_of;
 use crate::wrap::norm_of;
+use leaves::norm::Ranges;
+use leaves::norm::either;
 use leaves::number::epsmch;
 use leaves::number::is_negative;
 use leaves::number::max;
@@ -10,9 +12,10 @@ ghost use mathlib.Core.Path.{_≡_};
 ghost use mathlib.Core.List.{[]};
 ghost use Prim.Native.Nat.{suc, _+_, _-_, _*_, _<_, _≤_};
 ghost use lib.ListN.{length, getD, set};
-ghost use Rattle.leaves.specs.Loop.{between};
-ghost use Rattle.reduce.specs.Reduction.{axisBy, reflect as reflectOf, reflectFrom, later, signed as signedOf, shrunk as shrunkOf};
-ghost use Rattle.reduce.specs.inner.Bench.{grid, Benched, Steps, divided, renewedAt, stale as staleOf};
+ghost use Rattle.leaves.specs.Loop.{between, alongBetween};
+ghost use Rattle.leaves.specs.Norm.{either as eitherOf, rangesOf};
+ghost use Rattle.reduce.specs.Reduction.{axisBy, reflect as reflectOf, reflectFrom, later, signed as signedOf, shrunk as shrunkOf, measuredLater};
+ghost use Rattle.reduce.specs.inner.Bench.{grid, Benched, Steps, Sees, divided, renewedAt, remeasuredAt, stale as staleOf};
 
 // The norm of a column with the sign of its first place.
 pub(crate) fn signed(s: f64, col: &[f64]) -> f64
@@ -99,17 +102,27 @@ fn stale(s: f64, w: f64) -> bool
 }
 
 // A norm of zero stays. Another loses the row that has gone to R, or is worked out anew from the rows below.
-fn renew(m: usize, n: usize, j: usize, k: usize, bench: &[f64], diag: &mut [f64], work: &mut [f64])
+fn renew(
+    m: usize,
+    n: usize,
+    j: usize,
+    k: usize,
+    bench: &[f64],
+    diag: &mut [f64],
+    work: &mut [f64],
+    seen: Ranges,
+) -> Ranges
     requires { ⌜ Benched m n (now bench) ⌝ }
     requires { ⌜ k < n ⌝ }
     requires { ⌜ j < m ⌝ }
     requires { ⌜ length (now diag) ≡ n ⌝ }
     requires { ⌜ length (now work) ≡ n ⌝ }
     ensures { λ _. ⌜ (now (diag .exit), now (work .exit)) ≡ renewedAt j k (getD (grid m n (now (bench .entry))) k []) (now (diag .entry)) (now (work .entry)) ⌝ }
+    ensures { λ r. ⌜ r ≡ eitherOf seen (rangesOf (remeasuredAt j k (getD (grid m n (now (bench .entry))) k []) (now (diag .entry)) (now (work .entry)))) ⌝ }
 {
     let d = diag[k];
     if d == 0.0 {
-        return;
+        return seen;
     }
     let a = row_at(m, n, k, j);
     let s = shrunk(d, bench[a]);
@@ -117,10 +130,13 @@ fn renew(m: usize, n: usize, j: usize, k: usize, bench: &[f64], diag: &mut [f64]
         let from = a + 1;
         let e = a + (m - j);
         let z = norm_of(&bench[from..e]);
-        diag[k] = z;
-        work[k] = z;
+        diag[k] = z.norm;
+        work[k] = z.norm;
+        let more = z.seen;
+        either(seen, more)
     } else {
         diag[k] = s;
+        seen
     }
 }
 
@@ -133,7 +149,8 @@ fn later_column(
     bench: &mut [f64],
     diag: &mut [f64],
     work: &mut [f64],
-)
+    seen: Ranges,
+) -> Ranges
     requires { ⌜ Benched m n (now bench) ⌝ }
     requires { ⌜ k < n ⌝ }
     requires { ⌜ j < m ⌝ }
@@ -141,9 +158,10 @@ fn later_column(
     requires { ⌜ length (now diag) ≡ n ⌝ }
     requires { ⌜ length (now work) ≡ n ⌝ }
     ensures { λ _. ⌜ Steps m n (later j (now (axis .entry)) k) (now (bench .entry)) (now (diag .entry)) (now (work .entry)) (now (bench .exit)) (now (diag .exit)) (now (work .exit)) ⌝ }
+    ensures { λ r. ⌜ Sees m n (measuredLater j (now (axis .entry)) k) (now (bench .entry)) (now (diag .entry)) (now (work .entry)) seen r ⌝ }
 {
     reflect_column(m, n, j, k, axis, bench);
-    renew(m, n, j, k, bench, diag, work);
+    renew(m, n, j, k, bench, diag, work, seen)
 }
 
 pub(crate) fn later_columns(
@@ -154,7 +172,8 @@ pub(crate) fn later_columns(
     bench: &mut [f64],
     diag: &mut [f64],
     work: &mut [f64],
-)
+    seen: Ranges,
+) -> Ranges
     requires { ⌜ Benched m n (now bench) ⌝ }
     requires { ⌜ j < n ⌝ }
     requires { ⌜ j < m ⌝ }
@@ -162,10 +181,13 @@ pub(crate) fn later_columns(
     requires { ⌜ length (now diag) ≡ n ⌝ }
     requires { ⌜ length (now work) ≡ n ⌝ }
     ensures { λ _. ⌜ Steps m n (between (later j (now (axis .entry))) (suc j) n) (now (bench .entry)) (now (diag .entry)) (now (work .entry)) (now (bench .exit)) (now (diag .exit)) (now (work .exit)) ⌝ }
+    ensures { λ r. ⌜ Sees m n (alongBetween (measuredLater j (now (axis .entry))) (later j (now (axis .entry))) (suc j) n) (now (bench .entry)) (now (diag .entry)) (now (work .entry)) seen r ⌝ }
 {
+    let mut all = seen;
     let mut k = j + 1;
     while k < n {
-        later_column(m, n, j, k, axis, bench, diag, work);
+        all = later_column(m, n, j, k, axis, bench, diag, work, all);
         k += 1;
     }
+    all
 }

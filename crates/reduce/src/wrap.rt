@@ -1,19 +1,31 @@
 // Leaves as the workings call them: on slices of fitting lengths there is no refusal, so a plain number or nothing comes back. A public
 // function may not require the lengths; these do, so they are not public and each crate has its own. They compile to nothing.
+use leaves::norm::Ranges;
 use leaves::reply::Place;
 use leaves::reply::Value;
 ghost use mathlib.Core.Path.{_≡_};
 ghost use Prim.Native.Nat.{_<_, _≤_};
 ghost use lib.ListN.{length};
-ghost use Rattle.leaves.specs.Norm.{norm};
+ghost use Rattle.leaves.specs.Norm.{norm, ranges};
 ghost use Rattle.leaves.specs.Vector.{dotOf, axpyAll, imaxOf};
 
-pub(crate) fn norm_of(v: &[f64]) -> f64
+// A norm, and the ranges that took part.
+pub(crate) struct NormSeen {
+    pub(crate) norm: f64,
+    pub(crate) seen: Ranges,
+}
+
+pub(crate) fn norm_of(v: &[f64]) -> NormSeen
     requires { ⌜ length (now v) ≤ 128 ⌝ }
-    ensures { λ r. ⌜ r ≡ norm (now (v .entry)) ⌝ }
+    ensures { λ r. ⌜ r .norm ≡ norm (now (v .entry)) ⌝ }
+    ensures { λ r. ⌜ r .seen ≡ ranges (now (v .entry)) ⌝ }
 {
     let s = leaves::norm::enorm(v);
-    s.value
+    let seen = s.seen;
+    NormSeen {
+        norm: s.value,
+        seen: seen,
+    }
 }
 
 pub(crate) fn dot_of(a: &[f64], b: &[f64]) -> f64

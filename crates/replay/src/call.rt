@@ -44,7 +44,7 @@ pub(crate) fn factoring(
         order,
         bench,
     );
-    told(t)
+    reply::of_factoring(t)
 }
 
 pub(crate) fn gradient(s: &[u8], st: State, store: &mut [f64], order: &[usize]) -> After {
@@ -75,7 +75,7 @@ fn on_vector(
         return beside::solve(st, store, order, v, out);
     }
     if op == b'N' {
-        return reply::of_value(measures::measures::a_x_norm(st, store, order, v));
+        return reply::of_measured(measures::measures::a_x_norm(st, store, order, v));
     }
     if !lambda.good {
         return unplayed(false, st);

@@ -6,10 +6,17 @@ use crate::room::Scene;
 use crate::room::places_within;
 use factor::state::Held;
 use factor::state::State;
+use leaves::norm::Ranges;
 use lines::part::doubles_within;
 use lines::put::double;
 use lines::put::number;
 use text::put;
+
+// Small seen, large seen.
+fn flags(f: Ranges, text: &mut [u8], at: usize) -> usize {
+    let a = number(f.small as usize, text, at);
+    number(f.large as usize, text, a)
+}
 
 fn sought(lambda: f64, norm: f64, trials: usize, text: &mut [u8], at: usize) -> usize {
     let a = double(lambda, text, at);
@@ -20,12 +27,21 @@ fn sought(lambda: f64, norm: f64, trials: usize, text: &mut [u8], at: usize) -> 
 fn values(r: Reply, text: &mut [u8], at: usize) -> usize {
     match r {
         Reply::Number(x) => double(x, text, at),
-        Reply::Numbers(x, y) => {
+        Reply::Seen(f) => flags(f, text, at),
+        Reply::Measured(x, f) => {
             let a = double(x, text, at);
-            double(y, text, a)
+            flags(f, text, a)
+        }
+        Reply::Numbers(x, y, f) => {
+            let a = double(x, text, at);
+            let b = double(y, text, a);
+            flags(f, text, b)
         }
         Reply::Place(k) => number(k, text, at),
-        Reply::Sought(lambda, norm, trials) => sought(lambda, norm, trials, text, at),
+        Reply::Sought(lambda, norm, trials, f) => {
+            let a = sought(lambda, norm, trials, text, at);
+            flags(f, text, a)
+        }
         Reply::Plain => at,
         Reply::Refused(_) => at,
         Reply::Quiet => at,

@@ -1,16 +1,19 @@
 // What an item answers.
 use crate::room;
 use factor::answer::Truth;
+use factor::state::FactorTold;
 use factor::state::State;
 use factor::state::Told;
+use leaves::norm::Ranges;
 use leaves::reply::Done;
+use leaves::reply::Measured;
 use leaves::reply::Place;
-use leaves::reply::Value;
+use leaves::reply::Ranged;
 use measures::gradient::Gradient;
 use measures::measures::GradientTold;
+use measures::measures::MeasuredTold;
 use measures::measures::PlaceTold;
 use measures::measures::TruthTold;
-use measures::measures::ValueTold;
 use measures::scaling::Scaling;
 use search::trust_region::Found;
 use search::trust_region::SearchTold;
@@ -18,10 +21,12 @@ use search::trust_region::SearchTold;
 // The values of a call, or its refusal. The last three are for an item that is no call, or that is not played.
 pub(crate) enum Reply {
     Plain,
+    Seen(Ranges),
     Number(f64),
-    Numbers(f64, f64),
+    Measured(f64, Ranges),
+    Numbers(f64, f64, Ranges),
     Place(usize),
-    Sought(f64, f64, usize),
+    Sought(f64, f64, usize, Ranges),
     Refused(u8),
     Quiet,
     Large,
@@ -96,6 +101,15 @@ pub(crate) fn told(t: Told) -> After {
     answered(state, of_done(answer))
 }
 
+pub(crate) fn of_factoring(t: FactorTold) -> After {
+    let answer = t.answer;
+    let state = t.state;
+    match answer {
+        Ranged::Seen(f) => answered(state, Reply::Seen(f)),
+        Ranged::Refused(k) => answered(state, Reply::Refused(k)),
+    }
+}
+
 pub(crate) fn of_gradient(t: GradientTold) -> After {
     let answer = t.answer;
     let state = t.state;
@@ -105,12 +119,12 @@ pub(crate) fn of_gradient(t: GradientTold) -> After {
     }
 }
 
-pub(crate) fn of_value(t: ValueTold) -> After {
+pub(crate) fn of_measured(t: MeasuredTold) -> After {
     let answer = t.answer;
     let state = t.state;
     match answer {
-        Value::Is(x) => answered(state, Reply::Number(x)),
-        Value::Refused(k) => answered(state, Reply::Refused(k)),
+        Measured::Is(x, f) => answered(state, Reply::Measured(x, f)),
+        Measured::Refused(k) => answered(state, Reply::Refused(k)),
     }
 }
 
@@ -136,15 +150,15 @@ pub(crate) fn of_search(t: SearchTold) -> After {
     let answer = t.answer;
     let state = t.state;
     match answer {
-        Found::Answer(a) => answered(state, Reply::Sought(a.lambda, a.dp_norm, a.trials)),
+        Found::Answer(a, f) => answered(state, Reply::Sought(a.lambda, a.dp_norm, a.trials, f)),
         Found::Refused(k) => answered(state, Reply::Refused(k)),
     }
 }
 
 pub(crate) fn of_scaling(r: Scaling) -> Reply {
     match r {
-        Scaling::First(t) => Reply::Numbers(t.xnorm, t.radius),
-        Scaling::Later => Reply::Plain,
+        Scaling::First(t, f) => Reply::Numbers(t.xnorm, t.radius, f),
+        Scaling::Later(f) => Reply::Seen(f),
         Scaling::Refused(k) => Reply::Refused(k),
     }
 }

@@ -12,10 +12,10 @@ use borrow.Author.Tests.{eq-eqb, ne-eqb, ltb-true, ltb-false}
 use Rattle.leaves.specs.Number.{plusZero, one, absOf, squareOf}
 use Rattle.leaves.specs.Norm.{rdwarf, rgiant, agiant, sums, middle, small, large, add-in, step, accumulate, none, finishLarge, finishMiddle, finishSmall, finish, norm}
 use Rattle.leaves.specs.declared.norm.Sums.{Sums}
-use Rattle.leaves.proofs.Normed.{nan-entry}
+use Rattle.leaves.proofs.Normed.{arms, nan-entry}
 use Rattle.search.specs.Enorm as minpack
 use Rattle.search.specs.Enorm.{Accumulators, accumulators, squared, largeComponent, smallComponent, component, components, calculated, minpackEnorm}
-use Rattle.search.proofs.Signs.{arms, Signed, round-signed}
+use Rattle.search.proofs.Signs.{Signed, round-signed}
 use Rattle.search.specs.Against.{NoNan}
 
 -- ---- numbers whose sign is clear: the two comparisons are each other's opposite

@@ -17,13 +17,14 @@ use borrow.Fn.Kinds.{endedOf}
 use denote.Triple.Clauses.{AtExit}
 use Rattle.leaves.specs.Reply.{answered}
 use Rattle.leaves.specs.Number.{dwarf, isFinite}
+use Rattle.leaves.specs.declared.norm.Ranges.{Ranges}
 use Rattle.factor.specs.Room.{load}
 use Rattle.factor.specs.Tests.{notAbove, isPermutation}
 use Rattle.factor.specs.Outcome.{Ended, ended}
 use Rattle.factor.specs.declared.state.State.{State}
 use Rattle.leaves.proofs.Squares.{diagonal-length}
 use Rattle.search.specs.Problem.{Problem}
-use Rattle.search.specs.Search.{answerOf, searchCall}
+use Rattle.search.specs.Search.{Flagged, answerOf, searchCall}
 use Rattle.search.specs.Enorm.{minpackEnorm}
 use Rattle.search.specs.Lmpar.{lmpar}
 use Rattle.search.specs.declared.LMParameter.{LMParameter}
@@ -49,28 +50,28 @@ search-is-lmpar unset p initial a step wide pivots rhs tall permuted finite abov
     answer-is-lmpar (minpackEnorm unset) p initial (inl (omega (arith, diagonal-length 0 (p .upper)))) (record { pivots = pivots; rhs = rhs; tall = tall; permuted = permuted })
     (enorm-is-norm unset) a step finite above e
 
-pub search-answers-as-lmpar : (unset : Float) (st : State) (order : List ℕ) (diag : List Float) (radius lambda : Float) (store out : List Float) (a : LMParameter)
+pub search-answers-as-lmpar : (unset : Float) (st : State) (order : List ℕ) (diag : List Float) (radius lambda : Float) (store out : List Float) (a : Flagged)
     → searchCall st order diag radius lambda store out .reply ≡ answered a → st .n ≤ st .m
     → lmpar (minpackEnorm unset) dwarf (lentOf st order diag radius store) lambda
-    ≡ record { x = take (st .n) (searchCall st order diag radius lambda store out .out); par = a .lambda; qrsolvs = a .trials }
+    ≡ record { x = take (st .n) (searchCall st order diag radius lambda store out .out); par = a .0 .lambda; qrsolvs = a .0 .trials }
 search-answers-as-lmpar unset st order diag radius lambda store out a h wide =
     answers-as-lmpar st order diag radius lambda store out a h (minpackEnorm unset) (enorm-is-norm unset)
     (inl (omega (arith, diagonal-length 0 (load (st .n) store .upper), fits st order diag radius lambda store out a h .upper-wide)))
 
 -- any outcome that meets the contract's equation
-outcome-is-lmpar : (unset : Float) (st : State) (order : List ℕ) (diag : List Float) (radius lambda : Float) (store out : List Float) (r : SearchTold) {store′ out′ : List Float} (a : LMParameter)
+outcome-is-lmpar : (unset : Float) (st : State) (order : List ℕ) (diag : List Float) (radius lambda : Float) (store out : List Float) (r : SearchTold) {store′ out′ : List Float} (a : LMParameter) (seen : Ranges)
     → ended (foundOf (r .answer)) (r .state) store′ out′ ≡ searchCall st order diag radius lambda store out
-    → r .answer ≡ found.Answer a → st .n ≤ st .m
+    → r .answer ≡ found.Answer a seen → st .n ≤ st .m
     → lmpar (minpackEnorm unset) dwarf (lentOf st order diag radius store) lambda ≡ record { x = take (st .n) out′; par = a .lambda; qrsolvs = a .trials }
-outcome-is-lmpar unset st order diag radius lambda store out r a e h wide =
-    let reply = ap (λ (x : Ended LMParameter). x .reply) (sym e) ∙ ap foundOf h in
-    let written = ap (λ (x : Ended LMParameter). x .out) (sym e) in
-    search-answers-as-lmpar unset st order diag radius lambda store out a reply wide
+outcome-is-lmpar unset st order diag radius lambda store out r a seen e h wide =
+    let reply = ap (λ (x : Ended Flagged). x .reply) (sym e) ∙ ap foundOf h in
+    let written = ap (λ (x : Ended Flagged). x .out) (sym e) in
+    search-answers-as-lmpar unset st order diag radius lambda store out (a, seen) reply wide
     ∙ ap (λ (x : List Float). record { x = take (st .n) x; par = a .lambda; qrsolvs = a .trials }) written
 
 -- The code: `Post` is what the source's `ensures` says of an answer r and of the lent slices at exit.
-pub determine-lambda-and-parameter-update-is-lmpar : (unset : Float) (κs : Lfts 4) (c : ArgsD signature κs) (r : SearchTold) (s : AtExit (endedOf 4 kinds.ps kinds.r) κs) (a : LMParameter)
-    → search.Post κs c r s → r .answer ≡ found.Answer a
+pub determine-lambda-and-parameter-update-is-lmpar : (unset : Float) (κs : Lfts 4) (c : ArgsD signature κs) (r : SearchTold) (s : AtExit (endedOf 4 kinds.ps kinds.r) κs) (a : LMParameter) (seen : Ranges)
+    → search.Post κs c r s → r .answer ≡ found.Answer a seen
     → (let st = c .0 in
     let store = now (c .1 .0) in
     let order = now (c .1 .1 .0) in
@@ -79,5 +80,5 @@ pub determine-lambda-and-parameter-update-is-lmpar : (unset : Float) (κs : Lfts
     let lambda = c .1 .1 .1 .1 .1 .0 in
     let out′ = now (s .1 .1 .1 .1 .1 .1 .0) in
     st .n ≤ st .m → lmpar (minpackEnorm unset) dwarf (lentOf st order diag radius store) lambda ≡ record { x = take (st .n) out′; par = a .lambda; qrsolvs = a .trials })
-determine-lambda-and-parameter-update-is-lmpar unset κs c r s a e h wide =
-    outcome-is-lmpar unset (c .0) (now (c .1 .1 .0)) (now (c .1 .1 .1 .0)) (c .1 .1 .1 .1 .0) (c .1 .1 .1 .1 .1 .0) (now (c .1 .0)) (now (c .1 .1 .1 .1 .1 .1 .0)) r a e h wide
+determine-lambda-and-parameter-update-is-lmpar unset κs c r s a seen e h wide =
+    outcome-is-lmpar unset (c .0) (now (c .1 .1 .0)) (now (c .1 .1 .1 .0)) (c .1 .1 .1 .1 .0) (c .1 .1 .1 .1 .1 .0) (now (c .1 .0)) (now (c .1 .1 .1 .1 .1 .1 .0)) r a seen e h wide

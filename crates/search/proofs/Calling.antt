@@ -11,6 +11,8 @@ use lib.Ieee.{Float}
 use borrow.Author.Tests.{ne-eqb, le-ltb}
 use Rattle.leaves.specs.Reply.{Reply, answered, refused}
 use Rattle.leaves.specs.Number.{plusZero}
+use Rattle.leaves.specs.Norm.{rangesOf}
+use Rattle.leaves.specs.declared.norm.Ranges.{Ranges}
 use Rattle.factor.specs.State.{withHeld, storeNeed}
 use Rattle.factor.specs.Room.{Room, load, lay, emptied}
 use Rattle.leaves.specs.Square.{zeros}
@@ -24,7 +26,8 @@ use Rattle.leaves.proofs.Refusals.{passed-iff, call-refused, call-worked, earli
 use Rattle.factor.proofs.Passed.{solve-passed}
 use Rattle.leaves.proofs.Splices.{drop-take}
 use Rattle.search.specs.Problem.{Problem, placed}
-use Rattle.search.specs.Search.{Answer, answerOf, problemOf, searchTests, searched, searchCall}
+use Rattle.search.specs.Measured.{measuredBy}
+use Rattle.search.specs.Search.{Answer, Flagged, answerOf, problemOf, searchTests, searched, searchCall}
 use Rattle.search.specs.inner.Read.{Ready}
 use Rattle.search.specs.declared.LMParameter.{LMParameter}
 use Rattle.search.proofs.Shapes.{placed-length, scatter-fresh}
@@ -34,13 +37,14 @@ use Rattle.search.proofs.Workings.{order-long, order-below}
 into-answered : (xs out : List Float) → length xs ≡ length out → xs ≡ written xs out
 into-answered xs out h = sym (ap (λ (z : List Float). xs ++ z) (drop-of-length-le out {i = length xs} (omega arith)) ∙ append-nil xs)
 
-pub step-written : (st : State) (s out : List Float) {x : Reply Answer} (a : LMParameter) (p : List Float) {s′ out′ : List Float} → answered (a, p) ≡ x → s′ ≡ s → out′ ≡ p → length p ≡ length out
-    → ended (answered a) (withHeld st held.Nothing) s′ out′ ≡ searched st s out x
-step-written st s out a p h e f l = rw (← h, e, f) (ap (λ (z : List Float). ended (answered a) (withHeld st held.Nothing) s z) (into-answered p out l))
+pub step-written : (st : State) (s out : List Float) {x : Reply Answer} {seen all : Ranges} (a : LMParameter) (p : List Float) {s′ out′ : List Float}
+    → answered (a, p) ≡ x → seen ≡ all → s′ ≡ s → out′ ≡ p → length p ≡ length out → ended (answered (a, seen)) (withHeld st held.Nothing) s′ out′ ≡ searched st s out all x
+step-written st s out {all = all} a p h g e f l =
+    rw (← h, g, e, f) (ap (λ (z : List Float). ended (answered (a, all)) (withHeld st held.Nothing) s z) (into-answered p out l))
 
-pub not-written : (st : State) (s out : List Float) {x : Reply Answer} (k : ℕ) {s′ : List Float} → refused k ≡ x → s′ ≡ s
-    → _≡_ {A = Ended LMParameter} (ended (refused k) (withHeld st held.Nothing) s′ out) (searched st s out x)
-not-written st s out k h e = rw (← h, e)
+pub not-written : (st : State) (s out : List Float) {x : Reply Answer} (all : Ranges) (k : ℕ) {s′ : List Float} → refused k ≡ x → s′ ≡ s
+    → _≡_ {A = Ended Flagged} (ended (refused k) (withHeld st held.Nothing) s′ out) (searched st s out all x)
+not-written st s out all k h e = rw (← h, e)
 
 -- ---- the step of an answer, each number at its column
 pub placing : (st : State) (store : List Float) (order : List ℕ) → Ready st store order → (w : List Float) → length w ≡ st .n
@@ -69,21 +73,21 @@ surplus n k out h =
     let d : drop n out ≡ drop (n - k) (drop k out) = ap (λ (j : ℕ). drop j out) e ∙ sym (drop-drop (n - k) k out) in
     rw (drop-take k n out, d) (take-append-drop (n - k) (drop k out))
 
-pub lent-back : (st : State) (n : ℕ) (s out : List Float) (x : Reply Answer) {a : Reply LMParameter} {s′ o′ : List Float} → length o′ ≡ n
-    → ended a (withHeld st held.Nothing) s′ o′ ≡ searched st s (take n out) x → ended a (withHeld st held.Nothing) s′ (o′ ++ drop n out) ≡ searched st s out x
-lent-back st n s out (answered b) {a} {s′} {o′} l h =
+pub lent-back : (st : State) (n : ℕ) (s out : List Float) (seen : Ranges) (x : Reply Answer) {a : Reply Flagged} {s′ o′ : List Float} → length o′ ≡ n
+    → ended a (withHeld st held.Nothing) s′ o′ ≡ searched st s (take n out) seen x → ended a (withHeld st held.Nothing) s′ (o′ ++ drop n out) ≡ searched st s out seen x
+lent-back st n s out seen (answered b) {a} {s′} {o′} l h =
     let p = b .1 in
-    let o : o′ ≡ p ++ drop (length p) (take n out) = ap (λ (z : Ended LMParameter). z .out) h in
+    let o : o′ ≡ p ++ drop (length p) (take n out) = ap (λ (z : Ended Flagged). z .out) h in
     let k : length p ≤ n = omega (arith, l, ap length o ∙ length-append p (drop (length p) (take n out))) in
     let w : o′ ++ drop n out ≡ written p out = ap (λ (z : List Float). z ++ drop n out) o ∙ append-assoc p (drop (length p) (take n out)) (drop n out) ∙ ap (λ (z : List Float). p ++ z) (surplus n (length p) out k) in
-    let r : a ≡ answered (b .0) = ap (λ (z : Ended LMParameter). z .reply) h in
-    let t : s′ ≡ s = ap (λ (z : Ended LMParameter). z .store) h in
+    let r : a ≡ answered (b .0, seen) = ap (λ (z : Ended Flagged). z .reply) h in
+    let t : s′ ≡ s = ap (λ (z : Ended Flagged). z .store) h in
     rw (w, r, t)
-lent-back st n s out (refused k) {a} {s′} {o′} l h =
-    let o : o′ ≡ take n out = ap (λ (z : Ended LMParameter). z .out) h in
+lent-back st n s out seen (refused k) {a} {s′} {o′} l h =
+    let o : o′ ≡ take n out = ap (λ (z : Ended Flagged). z .out) h in
     let w : o′ ++ drop n out ≡ out = ap (λ (z : List Float). z ++ drop n out) o ∙ take-append-drop n out in
-    let r : a ≡ refused k = ap (λ (z : Ended LMParameter). z .reply) h in
-    let t : s′ ≡ s = ap (λ (z : Ended LMParameter). z .store) h in
+    let r : a ≡ refused k = ap (λ (z : Ended Flagged). z .reply) h in
+    let t : s′ ≡ s = ap (λ (z : Ended Flagged). z .store) h in
     rw (w, r, t)
 
 -- ---- the tests
@@ -119,10 +123,12 @@ module _ (st : State) (store : List Float) (order : List ℕ) (diag : List Float
         let k : ltb (min (length order) (st .n)) (st .n) ≡ false = le-ltb (min (length order) (st .n)) (st .n) (omega (arith, o .order-long)) in
         passed-iff (solveTests st (length store) order (st .n)) refl .1 (h .0, (h .1 .0, (rw (l, k), (h .1 .1 .1 .0, tt))))
 
-    pub call-is-run : {x : Ended LMParameter} → x ≡ searched st (lay (emptied (load (st .n) store))) out (answerOf (problemOf st order (take (st .n) diag) radius (load (st .n) store)) lambda)
-        → x ≡ searchCall st order diag radius lambda store out
+    abbrev searchedOf : Problem → Ended Flagged
+    searchedOf p = searched st (lay (emptied (load (st .n) store))) out (rangesOf (measuredBy p lambda)) (answerOf p lambda)
+
+    pub call-is-run : {x : Ended Flagged} → x ≡ searchedOf (problemOf st order (take (st .n) diag) radius (load (st .n) store)) → x ≡ searchCall st order diag radius lambda store out
     unfolding searchCall
     call-is-run h =
         let t : problemOf st order (take (st .n) diag) radius (load (st .n) store) ≡ problemOf st order diag radius (load (st .n) store) =
         rw (take-all (st .n) (take (st .n) diag) (omega (arith, length-take-le (st .n) diag diag-long))) in
-        h ∙ ap (λ (p : Problem). searched st (lay (emptied (load (st .n) store))) out (answerOf p lambda)) t ∙ call-worked _ (λ k. ended (refused k) st store out) _ (sym e ∙ z)
+        h ∙ ap searchedOf t ∙ call-worked _ (λ k. ended (refused k) st store out) _ (sym e ∙ z)

@@ -3,6 +3,7 @@ pub mod Constants
 pub mod Numbers
 pub mod Lists
 pub mod Trying
+pub mod Seeing
 pub mod Shapes
 pub mod Workings
 pub mod Calling

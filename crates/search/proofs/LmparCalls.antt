@@ -11,6 +11,8 @@ use lib.Ieee.{Float, binary64, sub, le}
 use borrow.Author.Tests.{eqb-true, not-false}
 use Rattle.leaves.specs.Reply.{Reply, answered, refused}
 use Rattle.leaves.specs.Number.{plusZero, dwarf, isFinite}
+use Rattle.leaves.specs.Norm.{rangesOf}
+use Rattle.leaves.specs.declared.norm.Ranges.{Ranges}
 use Rattle.leaves.proofs.Replies.{refused-answered, answered-same}
 use Rattle.factor.specs.Room.{Room, load, lay, emptied}
 use Rattle.leaves.specs.Square.{diagonal}
@@ -24,7 +26,8 @@ use Rattle.leaves.proofs.Refusals.{passed-iff}
 use Rattle.factor.proofs.Solves.{gather-length}
 use Rattle.search.specs.Problem.{Problem, placed, undampedStep, scaledStep}
 use Rattle.search.specs.Bounds.{band}
-use Rattle.search.specs.Search.{Answer, answerOf, problemOf, searchTests, searched, searchCall}
+use Rattle.search.specs.Measured.{measuredBy}
+use Rattle.search.specs.Search.{Answer, Flagged, answerOf, problemOf, searchTests, searched, searchCall}
 use Rattle.search.specs.Qrsolv.{Solved, qrsolv}
 use Rattle.search.specs.Lmpar.{Given, Output, Before, Tried, evaluated, accepted, improved, iterations, lmpar}
 use Rattle.search.specs.declared.LMParameter.{LMParameter}
@@ -83,20 +86,20 @@ module _ (enorm : List Float → Float) (p : Problem) (w : Formed p) where
       by b false = iterations-long 9 b
 
 -- ---- an answer comes from the working alone, and writes its step
-module _ (st : State) (s store out : List Float) (c : ℕ) where
-  abbrev outcome : Reply Answer → Bool → Ended LMParameter
-  outcome x z = elim z [ true ↦ searched st s out x | false ↦ ended (refused c) st store out ]
+module _ (st : State) (s store out : List Float) (seen : Ranges) (c : ℕ) where
+  abbrev outcome : Reply Answer → Bool → Ended Flagged
+  outcome x z = elim z [ true ↦ searched st s out seen x | false ↦ ended (refused c) st store out ]
 
   abbrev Worked : Reply Answer → LMParameter → List Float → Type 0
   Worked x a after = (c ≡ 0) × ((step : List Float) × ((x ≡ answered (a, step)) × (after ≡ written step out)))
 
-  by-test : (x : Reply Answer) (a : LMParameter) (z : Bool) → eqb c 0 ≡ z → outcome x z .reply ≡ answered a → Worked x a (outcome x z .out)
-  by-test (answered b) a true e h = (eqb-true c 0 e, (b .1, (ap (λ (y : LMParameter). answered (y, b .1)) (answered-same h), refl)))
+  by-test : (x : Reply Answer) (a : Flagged) (z : Bool) → eqb c 0 ≡ z → outcome x z .reply ≡ answered a → Worked x (a .0) (outcome x z .out)
+  by-test (answered b) a true e h = (eqb-true c 0 e, (b .1, (ap (λ (y : Flagged). answered (y .0, b .1)) (answered-same h), refl)))
   by-test (refused k) a true e h = refused-answered h
   by-test x a false e h = refused-answered h
 
 module _ (st : State) (order : List ℕ) (diag : List Float) (radius lambda : Float) (store out : List Float) where
-  abbrev call : Ended LMParameter
+  abbrev call : Ended Flagged
   call = searchCall st order diag radius lambda store out
 
   abbrev room : Room
@@ -111,10 +114,13 @@ module _ (st : State) (order : List ℕ) (diag : List Float) (radius lambda : Fl
   abbrev given : Given
   given = record { n = st .n; r = room .upper; ipvt = take (st .n) order; diag = take (st .n) diag; qtb = room .qtb; delta = radius }
 
-  module _ (a : LMParameter) (h : call .reply ≡ answered a) where
-    worked : Worked st (lay (emptied room)) store out (firstOf tests) (answerOf asked lambda) a (call .out)
+  module _ (a : Flagged) (h : call .reply ≡ answered a) where
+    abbrev seen : Ranges
+    seen = rangesOf (measuredBy asked lambda)
+
+    worked : Worked st (lay (emptied room)) store out seen (firstOf tests) (answerOf asked lambda) (a .0) (call .out)
     unfolding searchCall
-    worked = by-test st (lay (emptied room)) store out (firstOf tests) (answerOf asked lambda) a (eqb (firstOf tests) 0) refl h
+    worked = by-test st (lay (emptied room)) store out seen (firstOf tests) (answerOf asked lambda) a (eqb (firstOf tests) 0) refl h
 
     -- the tests of the radius
     numbers : (isFinite radius ≡ true) × (le radius plusZero ≡ false)
@@ -140,10 +146,10 @@ module _ (st : State) (order : List ℕ) (diag : List Float) (radius lambda : Fl
     given-is = rw (fits .upper-wide)
 
     pub answers-as-lmpar : (enorm : List Float → Float) → AsNorm enorm → Enough (st .m) (diagonal (room .upper))
-        → lmpar enorm dwarf given lambda ≡ record { x = take (st .n) (call .out); par = a .lambda; qrsolvs = a .trials }
+        → lmpar enorm dwarf given lambda ≡ record { x = take (st .n) (call .out); par = a .0 .lambda; qrsolvs = a .0 .trials }
     answers-as-lmpar enorm same wide =
         let step = worked .1 .0 in
-        let is = answer-is-lmpar enorm asked lambda wide formed same a step (numbers .0) (numbers .1) (worked .1 .1 .0) in
+        let is = answer-is-lmpar enorm asked lambda wide formed same (a .0) step (numbers .0) (numbers .1) (worked .1 .1 .0) in
         let long : length step ≡ st .n = ap (λ (x : Output). length (x .x)) (sym is) ∙ x-long enorm asked formed lambda wide ∙ fits .upper-wide in
         let e : take (st .n) (call .out) ≡ step = ap (take (st .n)) (worked .1 .1 .1) ∙ take-at step (drop (length step) out) (st .n) long in
-        ap (λ (x : Given). lmpar enorm dwarf x lambda) given-is ∙ is ∙ ap (λ (x : List Float). record { x = x; par = a .lambda; qrsolvs = a .trials }) (sym e)
+        ap (λ (x : Given). lmpar enorm dwarf x lambda) given-is ∙ is ∙ ap (λ (x : List Float). record { x = x; par = a .0 .lambda; qrsolvs = a .0 .trials }) (sym e)

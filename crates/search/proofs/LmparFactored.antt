@@ -11,6 +11,7 @@ use lib.ListN.{length, getD, take}
 use lib.Seq.{getD-at}
 use lib.Ieee.{Float, nan, eq}
 use borrow.Author.Tests.{le-ltb, leb-true, leb-false}
+use Rattle.leaves.specs.declared.norm.Ranges.{Ranges}
 use Rattle.leaves.specs.Reply.{answered}
 use Rattle.leaves.specs.Number.{plusZero}
 use Rattle.leaves.specs.Triangle.{columns}
@@ -35,7 +36,7 @@ last-zero : (m : ℕ) (c : List Float) (d : Float) → length c ≡ m → getD (
 unfolding upperColumn
 last-zero m c d l = let e : suc m - m ≡ 1 = omega arith in rw (le-ltb m m (omega arith), e) (getD-at c plusZero [] nan m l)
 
-module _ (m n : ℕ) (jacobian residuals store : List Float) (order : List ℕ) (bench : List Float) (h : factorCall m n jacobian residuals store order bench .reply ≡ answered tt) where
+module _ (m n : ℕ) (jacobian residuals store : List Float) (order : List ℕ) (bench : List Float) {f : Ranges} (h : factorCall m n jacobian residuals store order bench .reply ≡ answered f) where
   abbrev made : Reduction
   made = reduction-of m n (columns m n jacobian) (take m residuals)
 

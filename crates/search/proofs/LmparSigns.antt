@@ -10,9 +10,9 @@ use lib.Dec.{ltb, eqb}
 use lib.IntN.{ℤ, negsuc}
 use lib.Ieee.{Float, Format, nan, inf, fin, binary64, up, down, low, prec, emax, below, level, odd, units, round, neg, sum, add, sub, mul, div, lt, le, eq, isNan}
 use lib.Ieee.Fits.{up-pos}
-use borrow.Author.Tests.{lt-ltb, eq-eqb, eqb-true}
+use borrow.Author.Tests.{lt-ltb}
 use Rattle.leaves.specs.Number.{plusZero, isFinite, isNegative, absOf}
-use Rattle.leaves.proofs.Signs.{other-sign}
+use Rattle.leaves.proofs.Signs.{other-sign, zero-equal, not-zero}
 use Rattle.search.specs.Bounds.{band}
 use Rattle.search.proofs.Constants.{zero-is}
 use Rattle.search.proofs.Signs.{negative-le}
@@ -85,13 +85,6 @@ divisor-number x (inf s) h = refl
 divisor-number x (fin s m e) h = refl
 
 -- ---- signs by comparing
-not-zero : (s : Bool) (m : ℕ) (e : ℤ) → eq (fin s (suc m) e) plusZero ≡ true → ⊥
-unfolding eq
-not-zero s m e h =
-    let p : 0 < suc m * up e = mul-pos (omega arith) (up-pos e) in
-    let q : suc m * up e * 1 ≡ 0 * down e = eqb-true (suc m * up e * 1) (0 * down e) (and-eq-true-iff _ _ .0 h .0) in
-    omega arith
-
 pub below-zero : (x : Float) → eq x plusZero ≡ false → lt x plusZero ≡ isNegative x
 below-zero x h = rw zero-is at (other-sign x (rw zero-is h))
 
@@ -100,7 +93,7 @@ unfolding isNan eq lt isNegative
 above-zero nan n h = absurd (true≢false n)
 above-zero (inf s) n h = refl
 above-zero (fin true m e) n h = refl
-above-zero (fin false zero e) n h = let p : eqb (0 * up e * 1) (0 * down e) ≡ true = eq-eqb (0 * up e * 1) (0 * down e) (omega arith) in absurd (true≢false (rw p at h))
+above-zero (fin false zero e) n h = absurd (true≢false (sym (zero-equal false e) ∙ h))
 above-zero (fin false (suc m) e) n h =
     let p : 0 < suc m * up e = mul-pos (omega arith) (up-pos e) in
     lt-ltb (0 * 1 * down e) (suc m * up e * 1) (omega arith)
@@ -124,7 +117,7 @@ zero-within (fin r m e) (inf true) h s n = absurd (true≢false s)
 zero-within (fin r m e) (inf false) h s n = refl
 zero-within (fin r m e) (fin true q d) h s n = absurd (true≢false s)
 zero-within (fin r zero e) (fin false q d) h s n = zero-le r (0 * up e * down d) (q * up d * down e) (omega arith)
-zero-within (fin r (suc m) e) (fin false q d) h s n = absurd (not-zero r m e h)
+zero-within (fin r (suc m) e) (fin false q d) h s n = absurd (true≢false (sym h ∙ not-zero r m e))
 
 -- ---- delta·0.1, for a delta that passes the tests
 pub record Bounded (x : Float) : Type 0 where

@@ -1,5 +1,5 @@
 -- No second outcome fits the search's contract: `Post` is what the source's `ensures` says. Assumes nothing.
-use mathlib.Core.Path.{_≡_, sym, ap, _∙_}
+use mathlib.Core.Path.{_≡_, sym, ap, ap₂, _∙_}
 use mathlib.Core.List.{List}
 use lib.Ieee.{Float}
 use contract.Lifetimes.{Lfts}
@@ -10,7 +10,7 @@ use denote.Triple.Clauses.{AtExit}
 use Rattle.leaves.proofs.Replies.{answered-refused, refused-answered, answered-same, refused-same}
 use Rattle.factor.specs.Outcome.{Ended, ended}
 use Rattle.factor.specs.declared.state.State.{State}
-use Rattle.search.specs.declared.LMParameter.{LMParameter}
+use Rattle.search.specs.Search.{Flagged}
 use Rattle.search.specs.declared.trust_region.Found.{Found}
 use Rattle.search.specs.declared.trust_region.Found.the-variants as found
 use Rattle.search.specs.declared.trust_region.SearchTold.{SearchTold}
@@ -20,12 +20,12 @@ use Rattle.search.proofs.trust_region.determine_lambda_and_parameter_up
 use Rattle.search.specs.Answers.{foundOf}
 
 abbrev End : Type 0
-End = Ended LMParameter
+End = Ended Flagged
 
 foundOf-same : (r t : Found) → foundOf r ≡ foundOf t → r ≡ t
-foundOf-same (found.Answer x) (found.Answer y) e = ap found.Answer (answered-same e)
-foundOf-same (found.Answer x) (found.Refused k) e = answered-refused e
-foundOf-same (found.Refused k) (found.Answer x) e = refused-answered e
+foundOf-same (found.Answer x f) (found.Answer y g) e = let h = answered-same e in ap₂ found.Answer (ap (λ (p : Flagged). p .0) h) (ap (λ (p : Flagged). p .1) h)
+foundOf-same (found.Answer x f) (found.Refused k) e = answered-refused e
+foundOf-same (found.Refused k) (found.Answer x f) e = refused-answered e
 foundOf-same (found.Refused j) (found.Refused k) e = ap found.Refused (refused-same e)
 
 abbrev tells : Found → State → SearchTold

@@ -1,7 +1,7 @@
 -- Which way the numbers of a search point: lower bounds and lambdas that are finite are not below zero, and a trial's lambda is above it.
 -- Assumes nothing.
 use mathlib.Core.Path.{_≡_, refl, sym, _∙_, subst}
-use mathlib.Core.Bool.{Bool, true, false, cond, true≢false, _||_}
+use mathlib.Core.Bool.{Bool, true, false, true≢false, _||_}
 use mathlib.Core.Logic.{_⊎_, inl, inr}
 use Prim.Native.Nat.{ℕ, zero, suc, _+_, _*_, _^_, _<_}
 use native.Mathlib.Nat.{mul-pos}
@@ -11,14 +11,10 @@ use lib.IntN.{ℤ}
 use lib.Ieee.{Float, nan, inf, fin, binary64, up, down, below, level, unlike, odd, units, round, mul, div, lt, le, eq, isNan}
 use lib.Ieee.Fits.{up-pos, down-pos, round-is}
 use lib.Ieee.Scale.{round-same}
-use borrow.Author.Tests.{lt-ltb, le-ltb, eq-eqb, ne-eqb, ltb-true}
-use Rattle.leaves.proofs.Signs.{max-by}
+use borrow.Author.Tests.{lt-ltb, le-ltb, ne-eqb, ltb-true}
+use Rattle.leaves.proofs.Signs.{max-by, zero-equal}
+use Rattle.leaves.proofs.Normed.{arms}
 use Rattle.leaves.specs.Number.{plusZero, dwarf, maxOf, minOf, isFinite, isNegative}
-
--- what holds of both arms of a test
-pub arms : {A : Type 0} (P : A → Type 0) (b : Bool) {x y : A} → P x → P y → P (cond b x y)
-arms P true p q = p
-arms P false p q = q
 
 -- a finite number that has the sign b, or is a zero
 abbrev pub Toward : Bool → Float → Type 0
@@ -112,11 +108,6 @@ over-norm (fin s m e) (fin t n d) h (inr k) = rw k (arms Clear (eqb m 0) tt tt)
 -- ---- tests
 above-zero : (m : ℕ) (e : ℤ) (k : ℕ) → 0 < k → 0 < suc m * up e * k
 above-zero m e k h = mul-pos (mul-pos (omega arith) (up-pos e)) h
-
-zero-equal : (s : Bool) (e : ℤ) → eq (fin s 0 e) plusZero ≡ true
-unfolding eq
-zero-equal true e = rw (eq-eqb (0 * up e * 1) (0 * down e) (omega arith), eq-eqb (0 * up e * 1) 0 (omega arith))
-zero-equal false e = rw (eq-eqb (0 * up e * 1) (0 * down e) (omega arith))
 
 -- what is not below zero
 pub not-below : (x : Float) → lt x plusZero ≡ false → Clear x

@@ -7,12 +7,12 @@ use lib.ListN.{length}
 use lib.IntN.{negsuc}
 use lib.Ieee.{Float, fin, binary64, add, mul, div, lt, le, eq, round}
 use Rattle.leaves.specs.Number.{plusZero, dwarf, maxOf, minOf, isFinite, isNegative}
-use Rattle.leaves.proofs.Normed.{norm-not-negative}
+use Rattle.leaves.proofs.Normed.{arms, norm-not-negative}
 use Rattle.factor.specs.Solve.{nonSingular}
 use Rattle.search.specs.Problem.{Problem, scaledNorm, undampedSlope, newton}
 use Rattle.search.specs.Bounds.{tenth, thousandth, band, lowerBound, gnorm, upperBound, firstLambda, raised}
 use Rattle.search.specs.Run.{Next, Trial, next}
-use Rattle.search.proofs.Signs.{arms, Clear, over-twice, over-clear, over-norm, not-below, not-at-most, above-clear, above-sign, max-clear, min-clear, min-sign, max-finite, max-above, max-dwarf, clear-above, times-signed}
+use Rattle.search.proofs.Signs.{Clear, over-twice, over-clear, over-norm, not-below, not-at-most, above-clear, above-sign, max-clear, min-clear, min-sign, max-finite, max-above, max-dwarf, clear-above, times-signed}
 
 pub tenth-is : tenth ≡ fin false 3602879701896397 (negsuc 54)
 unfolding tenth round

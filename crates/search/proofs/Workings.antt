@@ -10,7 +10,6 @@ use lib.Seq.{take-all, length-take-le}
 use lib.Ieee.{Float}
 use Rattle.leaves.specs.Reply.{Reply, answered}
 use Rattle.leaves.specs.Root.{rootS}
-use Rattle.leaves.specs.Norm.{norm}
 use Rattle.leaves.specs.Vector.{scaleAll}
 use Rattle.leaves.specs.Product.{productAll}
 use Rattle.factor.specs.Room.{Room, load, lay, emptied}
@@ -34,7 +33,8 @@ use Rattle.factor.proofs.Layouts.{load-shaped}
 use Rattle.factor.proofs.PivotOrders.{zero-in-passed, damped-in-passed, held-zero-in-passed, held-damped-in-passed, product-in-passed, full-rank-passed, empty-in-passed}
 use Rattle.search.specs.Problem.{Problem, placed, undampedStep, dampedRows, dampedStep, scaledStep}
 use Rattle.search.specs.Search.{problemOf}
-use Rattle.search.specs.Bounds.{quotients, gnorm}
+use Rattle.search.specs.Bounds.{quotients}
+use Rattle.search.specs.Measured.{gradientBy}
 use Rattle.search.specs.inner.Read.{Ready, turnedBy}
 use Rattle.search.proofs.Lists.{by-scaling}
 use Rattle.search.proofs.Shapes.{zero-length, damped-length, upper-length, lower-length, mul-length, gathered-even, Even, placed-scaled}
@@ -174,17 +174,16 @@ module _ (st : State) (store : List Float) (order : List ℕ) (e : Ready st stor
   pub empty-store : {a : Reply (Unit {0})} {s′ : List Float} → read a s′ ≡ emptyIn (st .n) store → s′ ≡ lay (emptied room)
   empty-store h = ap (λ (x : Read). x .out) (h ∙ empty-in-passed (st .n) store (tests-at (st .n) (le-refl (st .n))))
 
-  -- ---- what the numbers are that are taken from them
-  pub slope-is : (h : Held) (s : Float) (v diag w w′ : List Float) {w″ : List Float} {r : Float} → length w ≡ st .n
-      → w′ ≡ gather (take (length w) order) (turnedBy s v diag) → w″ ≡ heldSolved h w′ room → r ≡ norm w″
-      → r ≡ norm (heldSolved h (gather (take (st .n) order) (turnedBy s v diag)) room)
-  slope-is h s v diag w w′ l a b k = k ∙ ap norm (b ∙ ap (λ (z : List Float). heldSolved h z room) (a ∙ ap (λ (j : ℕ). gather (take j order) (turnedBy s v diag)) l))
+  -- ---- what the vectors are whose norms are taken of them
+  pub held-is : (h : Held) (s : Float) (v diag w w′ : List Float) {w″ : List Float} → length w ≡ st .n
+      → w′ ≡ gather (take (length w) order) (turnedBy s v diag) → w″ ≡ heldSolved h w′ room → w″ ≡ heldSolved h (gather (take (st .n) order) (turnedBy s v diag)) room
+  held-is h s v diag w w′ l a b = b ∙ ap (λ (z : List Float). heldSolved h z room) (a ∙ ap (λ (j : ℕ). gather (take j order) (turnedBy s v diag)) l)
 
   module _ (diag : List Float) (dl : length diag ≡ st .n) where
-    pub gnorm-is : (radius : Float) (w : List Float) {w′ : List Float} {r : Float} → length w ≡ st .n → w ≡ mulUpper (room .qtb) (room .upper)
-        → w′ ≡ quotients w (gather (take (length w) order) diag) → r ≡ norm w′ → r ≡ gnorm (problemOf st order diag radius room)
-    unfolding gnorm
-    gnorm-is radius w l a b k = k ∙ ap norm (b ∙ rw (l, take-all (st .n) diag (omega arith)) (ap (λ (z : List Float). quotients z (gather (take (st .n) order) diag)) a))
+    pub gradient-is : (radius : Float) (w : List Float) {w′ : List Float} → length w ≡ st .n → w ≡ mulUpper (room .qtb) (room .upper)
+        → w′ ≡ quotients w (gather (take (length w) order) diag) → w′ ≡ gradientBy (problemOf st order diag radius room)
+    unfolding gradientBy
+    gradient-is radius w l a b = b ∙ rw (l, take-all (st .n) diag (omega arith)) (ap (λ (z : List Float). quotients z (gather (take (st .n) order) diag)) a)
 
   -- ---- the store after a call
   pub ready-after : (s′ : List Float) → length s′ ≡ length store → Ready st s′ order

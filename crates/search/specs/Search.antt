@@ -7,6 +7,8 @@ use lib.ListN.{length, take}
 use lib.Ieee.{Float}
 use Rattle.leaves.specs.Reply.{Reply, answered, refused}
 use Rattle.leaves.specs.Number.{plusZero}
+use Rattle.leaves.specs.Norm.{rangesOf}
+use Rattle.leaves.specs.declared.norm.Ranges.{Ranges}
 use Rattle.factor.specs.State.{withHeld}
 use Rattle.factor.specs.Room.{Room, load, lay, emptied}
 use Rattle.leaves.specs.Tests.{Test, firstOf, noneZero}
@@ -17,6 +19,7 @@ use Rattle.factor.specs.declared.state.Held.the-variants as held
 use Rattle.search.specs.Problem.{Problem, undampedStep, scaledNorm}
 use Rattle.search.specs.Run.{Run, stopped, last, trial, runOf}
 use Rattle.search.specs.Run as run
+use Rattle.search.specs.Measured.{measuredBy}
 use Rattle.search.specs.declared.LMParameter.{LMParameter}
 
 -- lambda, scaled norm and the trials run, and the step
@@ -53,16 +56,21 @@ searchTests st store order diag radius lambda out =
     solveTests st store order (min (length diag) out)
     ++ (finiteTest st diag ∷ finiteNumber radius ∷ finiteNumber lambda ∷ (notAbove radius, 7) ∷ (below lambda, 7) ∷ (not (noneZero (take (st .n) diag)), 7) ∷ [])
 
--- A search ends with +0 below the diagonal and in l_diag, held nothing, answered or refused 8; the output is written by an answer alone.
-abbrev pub searched : State → List Float → List Float → Reply Answer → Ended LMParameter
-searched st store out (answered a) = ended (answered (a .0)) (withHeld st held.Nothing) store (written (a .1) out)
-searched st store out (refused k) = ended (refused k) (withHeld st held.Nothing) store out
+-- 02, #106: "each answer carries two flags: small seen, large seen"; "A refusal carries no flags"
+abbrev pub Flagged : Type 0
+Flagged = LMParameter × Ranges
 
-unfoldable pub searchCall : State → List ℕ → List Float → Float → Float → List Float → List Float → Ended LMParameter
+-- A search ends with +0 below the diagonal and in l_diag, held nothing, answered or refused 8; the output is written by an answer alone.
+abbrev pub searched : State → List Float → List Float → Ranges → Reply Answer → Ended Flagged
+searched st store out seen (answered a) = ended (answered (a .0, seen)) (withHeld st held.Nothing) store (written (a .1) out)
+searched st store out seen (refused k) = ended (refused k) (withHeld st held.Nothing) store out
+
+unfoldable pub searchCall : State → List ℕ → List Float → Float → Float → List Float → List Float → Ended Flagged
 searchCall st order diag radius lambda store out =
     let c = firstOf (searchTests st (length store) order diag radius lambda (length out)) in
     let r = load (st .n) store in
+    let p = problemOf st order diag radius r in
     elim (eqb c 0) [
-      | true ↦ searched st (lay (emptied r)) out (answerOf (problemOf st order diag radius r) lambda)
+      | true ↦ searched st (lay (emptied r)) out (rangesOf (measuredBy p lambda)) (answerOf p lambda)
       | false ↦ ended (refused c) st store out
     ]

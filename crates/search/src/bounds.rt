@@ -1,4 +1,7 @@
 // Document 01, module 7: the numbers that a search goes by, and its stop rules.
+use crate::vectors::Measure;
+use leaves::norm::Ranges;
+use leaves::norm::either;
 use leaves::number::abs_within;
 use leaves::number::dwarf;
 use leaves::number::is_negative;
@@ -7,17 +10,19 @@ use leaves::number::min;
 ghost use mathlib.Core.Path.{_≡_};
 ghost use lib.Ieee.{le};
 ghost use Rattle.leaves.specs.Number.{absOf};
+ghost use Rattle.leaves.specs.Norm.{either as eitherOf};
 ghost use Rattle.search.specs.Problem.{newton};
 ghost use Rattle.search.specs.Bounds.{band, upperBound, firstLambda, raised};
 ghost use Rattle.search.specs.Run.{isFalling, next};
 ghost use Rattle.search.specs.inner.Read.{nextOf, bare};
 
-// What one trial hands to the next: its lambda, the bounds, and fp of the trial before.
+// What one trial hands to the next: its lambda, the bounds, fp of the trial before, and what the norms so far have seen.
 pub(crate) struct Going {
     pub(crate) lambda: f64,
     pub(crate) lower: f64,
     pub(crate) upper: f64,
     pub(crate) fp: f64,
+    pub(crate) seen: Ranges,
 }
 
 pub(crate) fn band_of(radius: f64) -> f64
@@ -79,25 +84,31 @@ pub(crate) fn is_falling(s: Going, fp: f64) -> bool
     false
 }
 
-// After the trial of `lambda`, by its fp and its correction.
-pub(crate) fn next_of(s: Going, lambda: f64, fp: f64, correction: f64) -> Going
-    ensures { λ r. ⌜ nextOf r ≡ next (bare s lambda) fp correction ⌝ }
+// After the trial of `lambda`, by its fp, what was seen up to it, and its correction.
+pub(crate) fn next_of(s: Going, lambda: f64, fp: f64, seen: Ranges, correction: Measure) -> Going
+    ensures { λ r. ⌜ nextOf r ≡ next (bare s lambda) fp (correction .value) ⌝ }
+    ensures { λ r. ⌜ r .seen ≡ eitherOf seen (correction .seen) ⌝ }
 {
     let old = s.lower;
     let upper = s.upper;
+    let c = correction.value;
+    let more = correction.seen;
+    let all = either(seen, more);
     if is_negative(fp) {
         return Going {
-            lambda: max(old, lambda + correction),
+            lambda: max(old, lambda + c),
             lower: old,
             upper: min(upper, lambda),
             fp: fp,
+            seen: all,
         };
     }
     let lower = max(old, lambda);
     Going {
-        lambda: max(lower, lambda + correction),
+        lambda: max(lower, lambda + c),
         lower: lower,
         upper: upper,
         fp: fp,
+        seen: all,
     }
 }

@@ -1,5 +1,6 @@
 // Document 01, module 7: the solves that a search makes, and the numbers that it takes from them. A step stands in w in pivot order; the
 // scaled step v has its number for each column. Only the scaled step is scattered in a trial, and the step of the answer at the end.
+use crate::vectors::Measure;
 use crate::vectors::norm_of;
 use crate::vectors::place_scaled;
 use crate::vectors::scale_by;
@@ -8,7 +9,7 @@ use factor::state::State;
 ghost use mathlib.Core.Path.{_≡_};
 ghost use lib.ListN.{length};
 ghost use Rattle.leaves.specs.Number.{plusZero};
-ghost use Rattle.leaves.specs.Norm.{norm as normOf};
+ghost use Rattle.leaves.specs.Norm.{norm as normOf, ranges};
 ghost use Rattle.factor.specs.Room.{load, lay, emptied};
 ghost use Rattle.factor.specs.Solve.{nonSingular};
 ghost use Rattle.factor.specs.PivotOrder.{lowered};
@@ -23,12 +24,13 @@ pub(crate) fn undamped(
     diag: &[f64],
     v: &mut [f64],
     w: &mut [f64],
-) -> f64
+) -> Measure
     requires { ⌜ Ready st (now store) (now order) ⌝ }
     requires { ⌜ (length (now diag) ≡ st .n) × (length (now v) ≡ st .n) × (length (now w) ≡ st .n) ⌝ }
-    ensures { λ r. ⌜ r ≡ normOf (now (v .exit)) ⌝ }
+    ensures { λ r. ⌜ r .value ≡ normOf (now (v .exit)) ⌝ }
     ensures { λ _. ⌜ now (v .exit) ≡ scaledStep (lent st (now (order .entry)) (now (diag .entry)) plusZero (now (store .entry))) (placed (lent st (now (order .entry)) (now (diag .entry)) plusZero (now (store .entry))) (now (w .exit))) ⌝ }
     ensures { λ _. ⌜ placed (lent st (now (order .entry)) (now (diag .entry)) plusZero (now (store .entry))) (now (w .exit)) ≡ undampedStep (lent st (now (order .entry)) (now (diag .entry)) plusZero (now (store .entry))) ⌝ }
+    ensures { λ r. ⌜ r .seen ≡ ranges (now (v .exit)) ⌝ }
 {
     let m = st.m;
     let n = st.n;
@@ -46,13 +48,14 @@ pub(crate) fn damped(
     lambda: f64,
     v: &mut [f64],
     w: &mut [f64],
-) -> f64
+) -> Measure
     requires { ⌜ Ready st (now store) (now order) ⌝ }
     requires { ⌜ (length (now diag) ≡ st .n) × (length (now v) ≡ st .n) × (length (now w) ≡ st .n) ⌝ }
-    ensures { λ r. ⌜ r ≡ normOf (now (v .exit)) ⌝ }
+    ensures { λ r. ⌜ r .value ≡ normOf (now (v .exit)) ⌝ }
     ensures { λ _. ⌜ now (v .exit) ≡ scaledStep (lent st (now (order .entry)) (now (diag .entry)) plusZero (now (store .entry))) (placed (lent st (now (order .entry)) (now (diag .entry)) plusZero (now (store .entry))) (now (w .exit))) ⌝ }
     ensures { λ _. ⌜ placed (lent st (now (order .entry)) (now (diag .entry)) plusZero (now (store .entry))) (now (w .exit)) ≡ dampedStep (lent st (now (order .entry)) (now (diag .entry)) plusZero (now (store .entry))) lambda ⌝ }
     ensures { λ _. ⌜ now (store .exit) ≡ lay (lowered (dampedRows (lent st (now (order .entry)) (now (diag .entry)) plusZero (now (store .entry))) lambda) (load (st .n) (now (store .entry)))) ⌝ }
+    ensures { λ r. ⌜ r .seen ≡ ranges (now (v .exit)) ⌝ }
 {
     scale_by(leaves::root::sqrt(lambda), order, diag, v);
     let n = st.n;

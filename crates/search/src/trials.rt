@@ -12,27 +12,32 @@ use crate::slopes::gradient_norm;
 use crate::slopes::lower_bound;
 use crate::steps::damped;
 use crate::trust_region::Found;
+use crate::vectors::Measure;
 use factor::state::State;
+use leaves::norm::Ranges;
+use leaves::norm::either;
 use leaves::number::is_finite;
 ghost use mathlib.Core.Path.{_≡_};
 ghost use lib.ListN.{length};
-ghost use Rattle.leaves.specs.Norm.{norm as normOf};
+ghost use Rattle.leaves.specs.Norm.{norm as normOf, rangesOf, either as eitherOf};
 ghost use Rattle.factor.specs.Room.{load, emptied};
 ghost use Rattle.search.specs.declared.trust_region.Found.the-variants as found;
 ghost use Rattle.search.specs.Problem.{placed, scaledStep};
 ghost use Rattle.search.specs.Run.{trialsFrom};
+ghost use Rattle.search.specs.Measured.{measuredBounds, measuredTrials};
 ghost use Rattle.search.specs.Search.{concluded};
-ghost use Rattle.search.specs.inner.Read.{lent, Ready, withStep, unanswered, nextOf, damped as dampedRun};
+ghost use Rattle.search.specs.inner.Read.{lent, Ready, withStep, Saw, unanswered, nextOf, damped as dampedRun};
 
 // An answer, but for its step.
-fn told(lambda: f64, norm: f64, trials: usize) -> Found
-    ensures { λ r. ⌜ r ≡ found.Answer (record { lambda = lambda; «dp_norm» = norm; trials = trials }) ⌝ }
+fn told(lambda: f64, norm: f64, trials: usize, seen: Ranges) -> Found
+    ensures { λ r. ⌜ r ≡ found.Answer (record { lambda = lambda; «dp_norm» = norm; trials = trials }) seen ⌝ }
 {
-    Found::Answer(LMParameter {
+    let answer = LMParameter {
         lambda: lambda,
         dp_norm: norm,
         trials: trials,
-    })
+    };
+    Found::Answer(answer, seen)
 }
 
 // At most ten trials. The step that is answered stands in w.
@@ -50,6 +55,7 @@ pub(crate) fn trials(
     requires { ⌜ (length (now diag) ≡ st .n) × (length (now v) ≡ st .n) × (length (now w) ≡ st .n) ⌝ }
     ensures { λ r. ⌜ withStep r (placed (lent st (now (order .entry)) (now (diag .entry)) radius (now (store .entry))) (now (w .exit))) ≡ concluded 0 unanswered (trialsFrom (lent st (now (order .entry)) (now (diag .entry)) radius (now (store .entry))) 9 (nextOf first)) ⌝ }
     ensures { λ _. ⌜ emptied (load (st .n) (now (store .exit))) ≡ emptied (load (st .n) (now (store .entry))) ⌝ }
+    ensures { λ r. ⌜ Saw r (eitherOf (first .seen) (rangesOf (measuredTrials (lent st (now (order .entry)) (now (diag .entry)) radius (now (store .entry))) (trialsFrom (lent st (now (order .entry)) (now (diag .entry)) radius (now (store .entry))) 9 (nextOf first))))) ⌝ }
 {
     let mut s = first;
     let mut t: usize = 0;
@@ -58,31 +64,35 @@ pub(crate) fn trials(
         if !is_finite(lambda) {
             break Found::Refused(8);
         }
-        let norm = damped(st, store, order, diag, lambda, v, w);
+        let d = damped(st, store, order, diag, lambda, v, w);
+        let norm = d.value;
         if !is_finite(norm) {
             break Found::Refused(8);
         }
+        let so_far = s.seen;
+        let by_trial = d.seen;
+        let seen = either(so_far, by_trial);
         t += 1;
         if t == 10 {
-            break told(lambda, norm, t);
+            break told(lambda, norm, t, seen);
         }
         let fp = norm - radius;
         if is_within(radius, fp) {
-            break told(lambda, norm, t);
+            break told(lambda, norm, t, seen);
         }
         if is_falling(s, fp) {
-            break told(lambda, norm, t);
+            break told(lambda, norm, t, seen);
         }
         let c = correction(st, store, order, diag, radius, fp, norm, v, w);
-        if !is_finite(c) {
+        if !is_finite(c.value) {
             break Found::Refused(8);
         }
-        s = next_of(s, lambda, fp, c);
+        s = next_of(s, lambda, fp, seen, c);
     };
     answer
 }
 
-// The bounds, then the trials. At entry w is the undamped step, v the scaled step, and `norm` the norm of that.
+// The bounds, then the trials. At entry w is the undamped step, v the scaled step, and `start` the norm of that.
 pub(crate) fn bounded(
     st: State,
     store: &mut [f64],
@@ -90,31 +100,39 @@ pub(crate) fn bounded(
     diag: &[f64],
     radius: f64,
     lambda: f64,
-    norm: f64,
+    start: Measure,
     v: &mut [f64],
     w: &mut [f64],
 ) -> Found
     requires { ⌜ Ready st (now store) (now order) ⌝ }
     requires { ⌜ (length (now diag) ≡ st .n) × (length (now v) ≡ st .n) × (length (now w) ≡ st .n) ⌝ }
-    requires { ⌜ (norm ≡ normOf (now v)) × (now v ≡ scaledStep (lent st (now order) (now diag) radius (now store)) (placed (lent st (now order) (now diag) radius (now store)) (now w))) ⌝ }
+    requires { ⌜ (start .value ≡ normOf (now v)) × (now v ≡ scaledStep (lent st (now order) (now diag) radius (now store)) (placed (lent st (now order) (now diag) radius (now store)) (now w))) ⌝ }
     ensures { λ r. ⌜ withStep r (placed (lent st (now (order .entry)) (now (diag .entry)) radius (now (store .entry))) (now (w .exit))) ≡ concluded 0 unanswered (dampedRun (lent st (now (order .entry)) (now (diag .entry)) radius (now (store .entry))) lambda (placed (lent st (now (order .entry)) (now (diag .entry)) radius (now (store .entry))) (now (w .entry)))) ⌝ }
     ensures { λ _. ⌜ emptied (load (st .n) (now (store .exit))) ≡ emptied (load (st .n) (now (store .entry))) ⌝ }
+    ensures { λ r. ⌜ Saw r (eitherOf (start .seen) (eitherOf (rangesOf (measuredBounds (lent st (now (order .entry)) (now (diag .entry)) radius (now (store .entry))) (placed (lent st (now (order .entry)) (now (diag .entry)) radius (now (store .entry))) (now (w .entry))))) (rangesOf (measuredTrials (lent st (now (order .entry)) (now (diag .entry)) radius (now (store .entry))) (dampedRun (lent st (now (order .entry)) (now (diag .entry)) radius (now (store .entry))) lambda (placed (lent st (now (order .entry)) (now (diag .entry)) radius (now (store .entry))) (now (w .entry)))))))) ⌝ }
 {
+    let norm = start.value;
     let fp = norm - radius;
-    let lower = lower_bound(st, store, order, diag, radius, fp, norm, v, w);
+    let low = lower_bound(st, store, order, diag, radius, fp, norm, v, w);
+    let lower = low.value;
     if !is_finite(lower) {
         return Found::Refused(8);
     }
     let g = gradient_norm(st, store, order, diag, w);
-    if !is_finite(g) {
+    if !is_finite(g.value) {
         return Found::Refused(8);
     }
-    let upper = upper_bound(g, radius);
+    let upper = upper_bound(g.value, radius);
+    let so_far = start.seen;
+    let by_lower = low.seen;
+    let by_gradient = g.seen;
+    let seen = either(so_far, either(by_lower, by_gradient));
     let first = Going {
-        lambda: first_lambda(lambda, lower, upper, g, norm),
+        lambda: first_lambda(lambda, lower, upper, g.value, norm),
         lower: lower,
         upper: upper,
         fp: fp,
+        seen: seen,
     };
     trials(st, store, order, diag, radius, first, v, w)
 }

@@ -1,21 +1,33 @@
 // Document 01, module 7: what a search does with vectors of a number for each column.
+use leaves::norm::Ranges;
 ghost use mathlib.Core.Path.{_≡_};
 ghost use Prim.Native.Nat.{ℕ, _≤_, _<_};
 ghost use lib.ListN.{length, getD, take};
-ghost use Rattle.leaves.specs.Norm.{norm};
+ghost use Rattle.leaves.specs.Norm.{norm, ranges};
 ghost use Rattle.leaves.specs.Vector.{scaleAll};
 ghost use Rattle.leaves.specs.Product.{productAll};
 ghost use Rattle.factor.specs.Solve.{gather, scatter};
 ghost use Rattle.search.specs.Bounds.{quotients};
 ghost use Rattle.search.specs.inner.Read.{turnedBy};
 
-// The norm as a plain number, as `wrap` of the crates below has it.
-pub(crate) fn norm_of(v: &[f64]) -> f64
+// A norm or a number taken from it, and what that norm saw (02, #106).
+pub(crate) struct Measure {
+    pub(crate) value: f64,
+    pub(crate) seen: Ranges,
+}
+
+// The norm with no refusal beside it, as `wrap` of the crates below has it.
+pub(crate) fn norm_of(v: &[f64]) -> Measure
     requires { ⌜ length (now v) ≤ 128 ⌝ }
-    ensures { λ r. ⌜ r ≡ norm (now (v .entry)) ⌝ }
+    ensures { λ r. ⌜ r .value ≡ norm (now (v .entry)) ⌝ }
+    ensures { λ r. ⌜ r .seen ≡ ranges (now (v .entry)) ⌝ }
 {
     let s = leaves::norm::enorm(v);
-    s.value
+    let seen = s.seen;
+    Measure {
+        value: s.value,
+        seen: seen,
+    }
 }
 
 // Each place over the scaling of the column that stands there.

@@ -20,7 +20,8 @@ use Rattle.factor.specs.declared.state.State.{State}
 use Rattle.measures.specs.declared.scaling.Mode.the-variants as mode
 use Rattle.leaves.proofs.Insides.{inside}
 use Rattle.factor.proofs.Answered.{answered-state}
-use Rattle.search.specs.declared.LMParameter.{LMParameter}
+use Rattle.search.specs.Search.{Flagged}
+use Rattle.leaves.specs.declared.norm.Ranges.{Ranges}
 use Rattle.sheet.specs.Sheet.{Task, search, start, Job, headOf, jobOf}
 use Rattle.sheet.specs.Tests.{unknown, numbersOf, sheetTests}
 use Rattle.sheet.specs.Fit.{Fit, searched, started, Finished, finished, mapped, bySearch, byDetermined, soughtFrom, byScaling, startedFrom, taskFrom, byFactoring, workedIn, worked, sheetCall}
@@ -37,11 +38,11 @@ Has n (answered (searched f)) = f .columns ≡ n
 Has n (answered (started r f)) = f .columns ≡ n
 Has n (refused k) = Unit {0}
 
-by-search : (n d : ℕ) (r : Reply LMParameter) (out : List Float) → Found n (bySearch n d r out .reply)
+by-search : (n d : ℕ) (r : Reply Flagged) (out : List Float) → Found n (bySearch n d r out .reply)
 by-search n d (answered p) out = refl
 by-search n d (refused k) out = tt
 
-by-determined : (n : ℕ) (d : Reply ℕ) (s : Ended LMParameter) (step : List Float) → Found n (byDetermined n d s step .reply)
+by-determined : (n : ℕ) (d : Reply ℕ) (s : Ended Flagged) (step : List Float) → Found n (byDetermined n d s step .reply)
 by-determined n (answered d) s step = by-search n d (s .reply) (s .out)
 by-determined n (refused k) s step = tt
 
@@ -59,8 +60,8 @@ module _ (st : State) (order : List ℕ) where
   sought-has diag radius lambda store step = by-determined (st .n) (determinedCall st store .reply) _ step
 
   scaled-has : (r : Reply Scaled) (diag store step : List Float) → Has (st .n) (byScaling st order r diag store step .reply)
-  scaled-has (answered (first t)) diag store step = as-started (st .n) (t .radius) (soughtFrom st order diag (t .radius) plusZero store step .reply) (sought-has diag (t .radius) plusZero store step)
-  scaled-has (answered later) diag store step = tt
+  scaled-has (answered (first t f)) diag store step = as-started (st .n) (t .radius) (soughtFrom st order diag (t .radius) plusZero store step .reply) (sought-has diag (t .radius) plusZero store step)
+  scaled-has (answered (later f)) diag store step = tt
   scaled-has (refused k) diag store step = tt
 
   started-has : (x : List Float) (bound : Float) (store step : List Float) → Has (st .n) (startedFrom st order x bound store step .reply)
@@ -73,16 +74,16 @@ module _ (st : State) (order : List ℕ) where
   task-has (search diag radius lambda) store step = as-searched (st .n) (soughtFrom st order diag radius lambda store step .reply) (sought-has diag radius lambda store step)
   task-has (start x bound) store step = started-has x bound store step
 
-factored-has : (task : Task) (r : Reply (Unit {0})) (st : State) (order : List ℕ) (store step : List Float) (n : ℕ) → (r ≡ answered tt → st .n ≡ n) → Has n (byFactoring task r st order store step .reply)
-factored-has task (answered u) st order store step n h = subst (λ (k : ℕ). Has k (taskFrom task st order store step .reply)) (h refl) (task-has st order task store step)
+factored-has : (task : Task) (r : Reply Ranges) (st : State) (order : List ℕ) (store step : List Float) (n : ℕ) → ((f : Ranges) → r ≡ answered f → st .n ≡ n) → Has n (byFactoring task r st order store step .reply)
+factored-has task (answered u) st order store step n h = subst (λ (k : ℕ). Has k (taskFrom task st order store step .reply)) (h u refl) (task-has st order task store step)
 factored-has task (refused k) st order store step n h = tt
 
 worked-has : (j : Job) (step : List Float) → Has (j .n) (worked j step .reply)
 unfolding worked workedIn
 worked-has j step =
-    let f = factorCall (j .m) (j .n) (j .jacobian) (j .residuals) (zeros 320) (replicate 16 0) (zeros 2176) in
-    factored-has (j .task) (f .reply) (f .state) (f .order) (f .store) step (j .n)
-    (λ h. ap (λ (x : State). x .n) (answered-state (j .m) (j .n) (j .jacobian) (j .residuals) (zeros 320) (replicate 16 0) (zeros 2176) h))
+    let made = factorCall (j .m) (j .n) (j .jacobian) (j .residuals) (zeros 320) (replicate 16 0) (zeros 2176) in
+    factored-has (j .task) (made .reply) (made .state) (made .order) (made .store) step (j .n)
+    (λ f h. ap (λ (x : State). x .n) (answered-state (j .m) (j .n) (j .jacobian) (j .residuals) (zeros 320) (replicate 16 0) (zeros 2176) h))
 
 -- ---- so the tests of its lines are passed
 tests-free : (n : ℕ) → 0 < n → n ≤ 16 → firstOf (columnTests n 16) ≡ 0

@@ -9,14 +9,13 @@ use lib.Ieee.{Float, nan, binary64, round}
 use Rattle.leaves.specs.Reply.{Reply, answered, refused}
 use Rattle.leaves.specs.Number.{plusZero}
 use Rattle.leaves.specs.Root.{rootS}
-use Rattle.leaves.specs.Norm.{norm}
+use Rattle.leaves.specs.Norm.{norm, neither}
 use Rattle.factor.specs.Factoring.{Factored, factorCall}
 use Rattle.factor.specs.Solves.{zeroCall}
 use Rattle.measures.specs.Measures.{gradientCall, determinedCall}
 use Rattle.factor.specs.HeldCalls.{solveCall}
 use Rattle.factor.specs.Outcome.{Ended}
-use Rattle.search.specs.Search.{searchCall}
-use Rattle.search.specs.declared.LMParameter.{LMParameter}
+use Rattle.search.specs.Search.{Flagged, searchCall}
 use Rattle.sheet.specs.Lines.{sheetText}
 use Rattle.sheet.specs.inner.Opened.{opened}
 
@@ -36,13 +35,13 @@ abbrev nil : Factored
 nil = factorCall 4 3 (replicate 12 plusZero) (w 1 ∷ w 2 ∷ w 3 ∷ w 4 ∷ []) (junk 21) (7 ∷ 7 ∷ 7 ∷ []) (junk 16)
 
 -- J = (3): F has r = (6) and radius 2, G r = (33) and radius 10, K F with radius +0; scaling 1, lambda 0
-abbrev searched : ℕ → Float → Ended LMParameter
+abbrev searched : ℕ → Float → Ended Flagged
 searched r radius =
     let f = factorCall 1 1 (w 3 ∷ []) (w r ∷ []) (junk 5) (7 ∷ []) (junk 2) in
     searchCall (f .state) (f .order) (w 1 ∷ []) radius plusZero (f .store) (junk 1)
 
-abbrev undamped : Float → Reply LMParameter
-undamped n = answered (record { lambda = plusZero; «dp_norm» = n; trials = 0 })
+abbrev undamped : Float → Reply Flagged
+undamped n = answered (record { lambda = plusZero; «dp_norm» = n; trials = 0 }, neither)
 
 -- the sheets of F, as document 01 gives it, of G and of K
 abbrev sheet-F : List ℕ

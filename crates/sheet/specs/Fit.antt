@@ -1,5 +1,5 @@
 -- 01, 'Job sheet and its program': the working of a sheet, by the calls of the lower crates in rooms of its own. A call's refusal is the
--- sheet's.
+-- sheet's. Its flags are dropped: what is printed has none (02, #106).
 use Prim.Native.Nat.{ℕ}
 use mathlib.Core.Bool.{true, false}
 use mathlib.Core.List.{List}
@@ -7,6 +7,7 @@ use lib.Dec.{eqb}
 use lib.ListN.{length, replicate}
 use lib.Ieee.{Float}
 use Rattle.leaves.specs.Reply.{Reply, answered, refused}
+use Rattle.leaves.specs.declared.norm.Ranges.{Ranges}
 use Rattle.leaves.specs.Number.{plusZero}
 use Rattle.leaves.specs.Square.{zeros}
 use Rattle.leaves.specs.Tests.{firstOf}
@@ -16,8 +17,7 @@ use Rattle.measures.specs.Measures.{determinedCall}
 use Rattle.measures.specs.Rescale.{Scaled, first, later, scalingCall}
 use Rattle.factor.specs.declared.state.State.{State}
 use Rattle.measures.specs.declared.scaling.Mode.the-variants as mode
-use Rattle.search.specs.Search.{searchCall}
-use Rattle.search.specs.declared.LMParameter.{LMParameter}
+use Rattle.search.specs.Search.{Flagged, searchCall}
 use Rattle.sheet.specs.Sheet.{Task, search, start, Job, headOf, jobOf}
 use Rattle.sheet.specs.Tests.{numbersOf, sheetTests}
 use Rattle.sheet.specs.declared.answer.Fitted.{Fitted}
@@ -44,12 +44,12 @@ finished a step = record { reply = a; step = step }
 
 -- ---- determined, then the search
 
-abbrev pub bySearch : ℕ → ℕ → Reply LMParameter → List Float → Finished Fitted
+abbrev pub bySearch : ℕ → ℕ → Reply Flagged → List Float → Finished Fitted
 bySearch n d (answered p) out =
-    finished (answered (record { columns = n; lambda = p .lambda; norm = p .«dp_norm»; trials = p .trials; determined = d })) out
+    finished (answered (record { columns = n; lambda = p .0 .lambda; norm = p .0 .«dp_norm»; trials = p .0 .trials; determined = d })) out
 bySearch n d (refused k) out = finished (refused k) out
 
-abbrev pub byDetermined : ℕ → Reply ℕ → Ended LMParameter → List Float → Finished Fitted
+abbrev pub byDetermined : ℕ → Reply ℕ → Ended Flagged → List Float → Finished Fitted
 byDetermined n (answered d) s step = bySearch n d (s .reply) (s .out)
 byDetermined n (refused k) s step = finished (refused k) step
 
@@ -66,9 +66,9 @@ mapped f (refused k) = refused k
 
 -- A first scaling never answers as a later one does: `starts` in `proofs/Starting.antt`.
 abbrev pub byScaling : State → List ℕ → Reply Scaled → List Float → List Float → List Float → Finished Fit
-byScaling st order (answered (first t)) diag store step =
+byScaling st order (answered (first t f)) diag store step =
     let a = soughtFrom st order diag (t .radius) plusZero store step in finished (mapped (started (t .radius)) (a .reply)) (a .step)
-byScaling st order (answered later) diag store step = finished (refused 8) step
+byScaling st order (answered (later f)) diag store step = finished (refused 8) step
 byScaling st order (refused k) diag store step = finished (refused k) step
 
 unfoldable pub startedFrom : State → List ℕ → List Float → Float → List Float → List Float → Finished Fit
@@ -83,8 +83,8 @@ taskFrom (search diag radius lambda) st order store step =
     let a = soughtFrom st order diag radius lambda store step in finished (mapped searched (a .reply)) (a .step)
 taskFrom (start x bound) st order store step = startedFrom st order x bound store step
 
-abbrev pub byFactoring : Task → Reply (Unit {0}) → State → List ℕ → List Float → List Float → Finished Fit
-byFactoring task (answered u) st order store step = taskFrom task st order store step
+abbrev pub byFactoring : Task → Reply Ranges → State → List ℕ → List Float → List Float → Finished Fit
+byFactoring task (answered f) st order store step = taskFrom task st order store step
 byFactoring task (refused k) st order store step = finished (refused k) step
 
 unfoldable pub workedIn : Job → List Float → List ℕ → List Float → List Float → Finished Fit

@@ -11,7 +11,7 @@ use crate::seek::search;
 use crate::seek::start;
 use factor::pivoted_qr::pivoted_qr;
 use factor::state::State;
-use leaves::reply::Done;
+use leaves::reply::Ranged;
 ghost use mathlib.Core.Path.{_≡_};
 ghost use mathlib.Core.Bool.{false};
 ghost use Prim.Native.Nat.{_+_, _≤_};
@@ -61,11 +61,11 @@ fn work_in(
     let a = m * n;
     let e = a + m;
     let f = pivoted_qr(m, n, &xs[..a], &xs[a..e], store, order, bench);
-    let done = f.answer;
+    let told = f.answer;
     let st = f.state;
-    match done {
-        Done::Written => task(h.call, n, &xs[e..], st, store, order, step),
-        Done::Refused(k) => Answer::Refused(k),
+    match told {
+        Ranged::Seen(_) => task(h.call, n, &xs[e..], st, store, order, step),
+        Ranged::Refused(k) => Answer::Refused(k),
     }
 }
 

@@ -37,7 +37,7 @@ fn seek_from(
     let s = determine_lambda_and_parameter_update(st, store, order, diag, radius, lambda, step);
     let found = s.answer;
     match found {
-        Found::Answer(p) => Sought::Found(Fitted {
+        Found::Answer(p, _) => Sought::Found(Fitted {
             columns: st.n,
             lambda: p.lambda,
             norm: p.dp_norm,
@@ -119,12 +119,12 @@ pub(crate) fn start(
     let s = update_diag(st, store, Mode::FirstScaled, &mut diag, x, bound);
     let scaling = s.answer;
     match scaling {
-        Scaling::First(t) => {
+        Scaling::First(t, _) => {
             let radius = t.radius;
             let a = seek(st, store, order, &diag, radius, 0.0, step);
             as_started(radius, a)
         }
-        Scaling::Later => Answer::Refused(8),
+        Scaling::Later(_) => Answer::Refused(8),
         Scaling::Refused(k) => Answer::Refused(k),
     }
 }

@@ -82,7 +82,7 @@ fn seek(
     );
     let answer = told.answer;
     match answer {
-        Found::Answer(a) => a.lambda + at(step, 0),
+        Found::Answer(a, _) => a.lambda + at(step, 0),
         Found::Refused(_) => 0.0,
     }
 }

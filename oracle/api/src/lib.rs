@@ -34,6 +34,29 @@ pub enum Mode {
     LaterUnscaled,
 }
 
+/// Which ranges of the norm took part (02, #106): an entry that is small, not zero; an entry that is large. A call's are
+/// those of every norm worked out for it. A refusal has none.
+#[derive(Clone, Copy, PartialEq, Eq, Debug)]
+pub struct Ranges {
+    pub small: bool,
+    pub large: bool,
+}
+
+impl Ranges {
+    pub const NEITHER: Ranges = Ranges {
+        small: false,
+        large: false,
+    };
+
+    /// What is seen in one or in the other.
+    pub fn either(self, other: Ranges) -> Ranges {
+        Ranges {
+            small: self.small || other.small,
+            large: self.large || other.large,
+        }
+    }
+}
+
 /// The answer of a first scaling.
 #[derive(Clone, Copy, PartialEq, Debug)]
 pub struct Start {
@@ -67,7 +90,7 @@ pub trait Leaves {
     /// 3 for none.
     fn imax(&self, v: &[f64]) -> Result<usize, u8>;
     /// 2 over 128 numbers.
-    fn enorm(&self, v: &[f64]) -> Result<f64, u8>;
+    fn enorm(&self, v: &[f64]) -> Result<(f64, Ranges), u8>;
     /// The first `n` of `x` become the solution of the upper triangle of a square of columns `apart` places apart;
     /// 3 where n is over `apart`, `x` is shorter than n, or the square is shorter than n columns. Otherwise the
     /// surplus of `x` is not touched.
@@ -86,7 +109,7 @@ pub trait Engine {
         store: &mut [f64],
         order: &mut [usize],
         bench: &mut [f64],
-    ) -> (Result<(), u8>, State);
+    ) -> (Result<Ranges, u8>, State);
     fn solve_with_zero_diagonal(
         &self,
         state: State,
@@ -126,9 +149,9 @@ pub trait Engine {
         store: &mut [f64],
         order: &[usize],
         x: &[f64],
-    ) -> (Result<f64, u8>, State);
-    /// The scaling part of `update_diag`. `Some` from a first call alone. Short `diag` is 3 in every mode, short `x`
-    /// in the first modes alone.
+    ) -> (Result<(f64, Ranges), u8>, State);
+    /// The scaling part of `update_diag`. `Some` from a first call alone; a later one works out no norm. Short `diag` is 3
+    /// in every mode, short `x` in the first modes alone.
     fn update_diag(
         &self,
         state: State,
@@ -137,7 +160,7 @@ pub trait Engine {
         diag: &mut [f64],
         x: &[f64],
         step_bound: f64,
-    ) -> (Result<Option<Start>, u8>, State);
+    ) -> (Result<(Option<Start>, Ranges), u8>, State);
     fn search(
         &self,
         state: State,
@@ -147,11 +170,35 @@ pub trait Engine {
         radius: f64,
         lambda: f64,
         out: &mut [f64],
-    ) -> (Result<Found, u8>, State);
+    ) -> (Result<(Found, Ranges), u8>, State);
     fn determined(&self, state: State, store: &mut [f64]) -> (Result<usize, u8>, State);
     fn is_non_singular(&self, state: State, store: &mut [f64]) -> (Result<bool, u8>, State);
     /// What `fitstep` prints for a sheet.
     fn sheet(&self, bytes: &[u8]) -> String;
+}
+
+/// What a norm of a factoring or of a search is of.
+#[derive(Clone, Copy, PartialEq, Eq, Debug)]
+pub enum Of {
+    Column,
+    /// The pivot column from this row on.
+    Pivot(usize),
+    /// What is left of a later column, worked out anew.
+    Anew,
+    Undamped,
+    /// The held solve for the lower bound.
+    LowerBound,
+    Gnorm,
+    Trial,
+    /// The held solve for a correction.
+    Correction,
+}
+
+/// One norm that was worked out.
+#[derive(Clone, Copy, PartialEq, Eq, Debug)]
+pub struct Measured {
+    pub of: Of,
+    pub ranges: Ranges,
 }
 
 /// One trial of a search: a damped solve and what follows from it.
@@ -203,6 +250,8 @@ pub struct Run {
     /// The held solve for the lower bound gave a number that is not finite.
     pub infinite_first_solve: bool,
     pub trials: Vec<Trial>,
+    /// In their order, as far as the run is looked at.
+    pub norms: Vec<Measured>,
     pub end: End,
 }
 
@@ -217,4 +266,6 @@ pub trait Traced {
         radius: f64,
         lambda: f64,
     ) -> Option<Run>;
+    /// The norms that a factoring works out, in their order; `None` where it is refused 2, 3 or 6 for the Jacobian.
+    fn norms(&self, m: usize, n: usize, jacobian: &[f64]) -> Option<Vec<Measured>>;
 }

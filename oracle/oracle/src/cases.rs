@@ -1,10 +1,11 @@
 //! Cases by kind, count and seed: what `make` prints is what `cover` counts.
 
-use crate::coverage::{self, Coverage};
+use crate::coverage::Coverage;
 use crate::engines::Working;
 use crate::pool::Pool;
 use crate::random::Random;
 use crate::script::Item;
+use crate::wanted;
 use crate::{make_calls, make_sheets};
 
 #[derive(Clone, Copy, PartialEq, Eq, Debug)]
@@ -13,8 +14,11 @@ pub enum Kind {
     Factorings,
 }
 
+/// Draws one case.
+pub type Draw = fn(&mut Random, &Pool) -> Vec<Item>;
+
 impl Kind {
-    fn draw(self) -> fn(&mut Random, &Pool) -> Vec<Item> {
+    fn draw(self) -> Draw {
         match self {
             Kind::Calls => make_calls::sequence,
             Kind::Factorings => make_calls::factoring_alone,
@@ -23,14 +27,18 @@ impl Kind {
 
     fn wanted(self) -> Vec<String> {
         match self {
-            Kind::Calls => coverage::wanted_of_calls(),
-            Kind::Factorings => coverage::wanted_of_factorings(),
+            Kind::Calls => wanted::wanted_of_calls(),
+            Kind::Factorings => wanted::wanted_of_factorings(),
         }
     }
 }
 
 pub fn scripts(kind: Kind, count: u64, seed: u64) -> impl Iterator<Item = Vec<Item>> {
-    let (pool, draw) = (Pool::hunt(seed), kind.draw());
+    drawn(kind.draw(), count, seed)
+}
+
+pub fn drawn(draw: Draw, count: u64, seed: u64) -> impl Iterator<Item = Vec<Item>> {
+    let pool = Pool::hunt(seed);
     let mut rng = Random::new(seed);
     (0..count).map(move |_| draw(&mut rng, &pool))
 }
@@ -56,5 +64,5 @@ pub fn covered_by_scripts(
 pub fn covered_by_sheets(engine: &dyn Working, count: u64, seed: u64) -> (Coverage, Vec<String>) {
     let mut coverage = Coverage::default();
     sheets(count, seed).for_each(|bytes| coverage.sheet(engine, &bytes, &engine.sheet(&bytes)));
-    (coverage, coverage::wanted_of_sheets())
+    (coverage, wanted::wanted_of_sheets())
 }

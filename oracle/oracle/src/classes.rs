@@ -2,7 +2,7 @@
 //! that went on past an infinite inner number.
 
 use crate::engines::Working;
-use api::{End, Place, Run, State, Stop};
+use api::{End, Place, Ranges, Run, State, Stop};
 
 pub const CLASSES: [&str; 28] = [
     "search stopped: undamped",
@@ -77,9 +77,9 @@ impl Asked<'_> {
         )
     }
 
-    /// The trap "working out a correction after trial ten": whether that one would not be finite, found by calls.
-    /// Where the calls refuse on the way the answer is no, which may miss a case and never makes one up.
-    fn correction_refuses(&self, engine: &dyn Working, lambda: f64) -> bool {
+    /// The correction that would follow a trial of this lambda, with what its norm sees, found by calls; none where these
+    /// refuse on the way. A step of zero is divided by its norm, so that all is NaN from there on.
+    pub fn correction(&self, engine: &dyn Working, lambda: f64) -> Option<(f64, Ranges)> {
         let n = self.state.n;
         let diag = &self.diag[..n];
         let mut store = self.store.to_vec();
@@ -87,20 +87,26 @@ impl Asked<'_> {
         let damping: Vec<f64> = diag.iter().map(|d| engine.sqrt(lambda) * d).collect();
         let (solved, state) =
             engine.solve_with_diagonal(self.state, &mut store, self.order, &damping, &mut p);
+        solved.ok()?;
         let scaled: Vec<f64> = p.iter().zip(diag).map(|(p, d)| p * d).collect();
-        let Ok(norm) = engine.enorm(&scaled) else {
-            return false;
-        };
-        if solved.is_err() || norm == 0.0 {
-            return solved.is_ok();
+        let (norm, _) = engine.enorm(&scaled).ok()?;
+        if norm == 0.0 {
+            let (length, seen) = engine.enorm(&vec![f64::NAN; n]).ok()?;
+            return Some((length, seen));
         }
         let rhs: Vec<f64> = scaled.iter().zip(diag).map(|(s, d)| s / norm * d).collect();
         let (held, _) = engine.solve(state, &mut store, self.order, &rhs, &mut x);
-        let Ok(length) = engine.enorm(&x) else {
-            return false;
-        };
+        held.ok()?;
+        let (length, seen) = engine.enorm(&x).ok()?;
         let correction = (((norm - self.radius) / self.radius) / length) / length;
-        held.is_ok() && !correction.is_finite()
+        Some((correction, seen))
+    }
+
+    /// The trap "working out a correction after trial ten": whether that one would not be finite. Where the calls refuse
+    /// on the way the answer is no, which may miss a case and never makes one up.
+    fn correction_refuses(&self, engine: &dyn Working, lambda: f64) -> bool {
+        let correction = self.correction(engine, lambda);
+        correction.is_some_and(|(correction, _)| !correction.is_finite())
     }
 
     /// The places in `CLASSES` that the search belongs to; none where it is refused 2 to 7.

@@ -1,11 +1,13 @@
-//! What a set of cases covered, with counts; and what it must cover.
+//! What a set of cases covered, with counts.
 
 use crate::classes::{Asked, CLASSES};
 use crate::engines::Working;
-use crate::replies::{Answer, Reply};
+use crate::replies::{Answer, Reply, Told};
 use crate::rooms::Rooms;
 use crate::script::Item;
+use crate::seen;
 use crate::sheets::{self, Fields};
+use crate::wanted::{DETERMINED, KINDS, SIZES};
 use api::{Held, Mode};
 use std::collections::BTreeMap;
 
@@ -29,120 +31,6 @@ fn name(item: &Item) -> &'static str {
         Item::NonSingular => "is_non_singular",
         _ => "no call",
     }
-}
-
-/// Every refusal that each call can give, by document 01's table.
-const REFUSALS: [(&str, &[u8]); 11] = [
-    ("factor", &[2, 3, 6, 8]),
-    ("zero solve", &[2, 3, 4, 5, 8]),
-    ("damped solve", &[2, 3, 4, 5, 6, 8]),
-    ("held solve", &[2, 3, 4, 5, 6, 8]),
-    ("held mul_qt_b", &[2, 3, 5, 8]),
-    ("gradient", &[2, 3, 4, 5, 6, 7, 8]),
-    ("norm of Jx", &[2, 3, 4, 5, 6, 8]),
-    ("scaling", &[2, 3, 5, 6, 7, 8]),
-    ("search", &[2, 3, 4, 5, 6, 7, 8]),
-    ("determined", &[2, 3, 5]),
-    ("is_non_singular", &[2, 3, 5]),
-];
-
-/// What `determined` is told of the diagonal, and what it answers (02, #104).
-const DETERMINED: [&str; 7] = [
-    "below the rank",
-    "the rank and below n",
-    "limit subnormal",
-    "a place at the limit",
-    "m < n",
-    "NaN on the diagonal",
-    "infinity on the diagonal",
-];
-
-/// The sizes of answered factorings and searches that are counted by themselves.
-const SIZES: [(&str, fn(usize, usize) -> bool); 6] = [
-    ("m < n", |m, n| m < n),
-    ("m < n, n = 16", |m, n| m < n && n == 16),
-    ("m = 128", |m, _| m == 128),
-    ("n = 16", |_, n| n == 16),
-    ("128 by 16", |m, n| (m, n) == (128, 16)),
-    ("m from 64, n from 8", |m, n| m >= 64 && n >= 8),
-];
-
-fn sizes_of(call: &str) -> impl Iterator<Item = String> {
-    SIZES
-        .iter()
-        .map(move |(size, _)| format!("{call} ok, {size}"))
-}
-
-const KINDS: [&str; 13] = [
-    "m < n",
-    "m = 128",
-    "n = 16",
-    "128 by 16",
-    "1 by 1",
-    "minus zero",
-    "subnormal",
-    "below 1e-319",
-    "1e307 or more",
-    "NaN",
-    "infinity",
-    "zero column",
-    "equal columns",
-];
-
-pub fn wanted_of_sheets() -> Vec<String> {
-    let mut wanted: Vec<String> = [1, 2, 3, 6, 7, 8]
-        .iter()
-        .map(|k| format!("sheet refused {k}"))
-        .collect();
-    for what in [
-        "call 1 answered",
-        "call 2 answered",
-        "rank deficient",
-        "J overflows and radius is zero",
-    ] {
-        wanted.push(format!("sheet {what}"));
-    }
-    wanted.extend(KINDS.iter().map(|kind| format!("sheet with {kind}")));
-    wanted.extend(CLASSES.iter().map(|class| class.to_string()));
-    wanted
-}
-
-fn answers_of(call: &str, numbers: &[u8]) -> Vec<String> {
-    let refused = numbers.iter().map(|k| format!("{call} refused {k}"));
-    std::iter::once(format!("{call} ok"))
-        .chain(refused)
-        .collect()
-}
-
-pub fn wanted_of_factorings() -> Vec<String> {
-    let (call, numbers) = REFUSALS[0];
-    let mut wanted = answers_of(call, numbers);
-    wanted.extend(sizes_of(call));
-    wanted
-}
-
-pub fn wanted_of_calls() -> Vec<String> {
-    let mut wanted = vec!["held solve refused 5, nothing held".to_string()];
-    for (call, numbers) in &REFUSALS[1..] {
-        wanted.extend(answers_of(call, numbers));
-    }
-    for mode in [
-        "FirstScaled",
-        "FirstUnscaled",
-        "LaterScaled",
-        "LaterUnscaled",
-    ] {
-        wanted.push(format!("scaling ok, {mode}"));
-    }
-    for held in ["Zero", "Damped"] {
-        wanted.push(format!("held solve ok, {held}"));
-        wanted.push(format!("held mul_qt_b ok, {held}"));
-    }
-    wanted.extend(DETERMINED.map(|what| format!("determined ok, {what}")));
-    wanted.extend(wanted_of_factorings());
-    wanted.extend(sizes_of("search"));
-    wanted.extend(CLASSES.iter().map(|class| class.to_string()));
-    wanted
 }
 
 impl Coverage {
@@ -256,6 +144,13 @@ impl Coverage {
             Err(k) => self.add(&format!("{call} refused {k}")),
             Ok(_) => self.add(&format!("{call} ok")),
         }
+        if let Ok(Answer {
+            ranges: Some(ranges),
+            ..
+        }) = reply.answer
+        {
+            self.add(&seen::label(call, ranges));
+        }
         match (item, &reply.answer) {
             (Item::Solve(_), Err(5)) if before.held == Held::Nothing => {
                 self.add("held solve refused 5, nothing held");
@@ -263,12 +158,23 @@ impl Coverage {
             (Item::Solve(_) | Item::Mul, Ok(_)) => {
                 self.add(&format!("{call} ok, {:?}", before.held))
             }
-            (Item::Scale { mode, .. }, Ok(_)) => self.scaling(*mode, &reply.answer),
-            (Item::Factor { m, n, .. }, Ok(_)) => self.sizes(call, *m, *n),
-            (Item::Search { .. }, Ok(_)) => self.sizes(call, before.m, before.n),
-            (Item::Determined, Ok(Answer::Count(count))) => self.determined(rooms, *count),
+            (Item::Scale { mode, .. }, Ok(answer)) => self.scaling(*mode, answer),
+            (Item::Factor { m, n, jacobian, .. }, Ok(_)) => {
+                self.sizes(call, *m, *n);
+                self.all(seen::of_factoring(engine, *m, *n, jacobian));
+            }
+            (Item::Search { .. }, Ok(_)) => {
+                self.sizes(call, before.m, before.n);
+                let asked = rooms.asked(item);
+                self.all(asked.map_or(Vec::new(), |asked| seen::of_search(engine, &asked)));
+            }
+            (Item::Determined, Ok(answer)) => self.determined(rooms, answer),
             _ => {}
         }
+    }
+
+    fn all(&mut self, labels: Vec<String>) {
+        labels.iter().for_each(|label| self.add(label));
     }
 
     fn sizes(&mut self, call: &str, m: usize, n: usize) {
@@ -277,7 +183,10 @@ impl Coverage {
         }
     }
 
-    fn determined(&mut self, rooms: &Rooms, count: usize) {
+    fn determined(&mut self, rooms: &Rooms, answer: &Answer) {
+        let Told::Count(count) = answer.told else {
+            return;
+        };
         let (m, n) = (rooms.state.m, rooms.state.n);
         let diagonal: Vec<f64> = (0..n).map(|j| rooms.store[j * n + j]).collect();
         let there = &diagonal[..m.min(n)];
@@ -297,9 +206,12 @@ impl Coverage {
         }
     }
 
-    fn scaling(&mut self, mode: Mode, answer: &Result<Answer, u8>) {
+    fn scaling(&mut self, mode: Mode, answer: &Answer) {
         self.add(&format!("scaling ok, {mode:?}"));
-        if matches!(answer, Ok(Answer::Doubles(v)) if v[0] == 0.0) {
+        if let Some(ranges) = answer.ranges {
+            self.add(&seen::scaling(mode, ranges));
+        }
+        if matches!(&answer.told, Told::Doubles(v) if v[0] == 0.0) {
             self.add("scaling ok, xnorm zero");
         }
     }

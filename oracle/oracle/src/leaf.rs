@@ -1,7 +1,9 @@
 //! Leaf vectors: `op args = answer`, one a line.
 
 use crate::engines::Working;
+use crate::replies::push_ranges;
 use crate::text::{push_double, push_doubles, push_number};
+use api::Ranges;
 
 #[derive(Clone, Debug)]
 pub enum Leaf {
@@ -28,6 +30,8 @@ pub enum Leaf {
 enum Said {
     Doubles(Vec<f64>),
     Number(usize),
+    /// A norm with its ranges (02, #106).
+    Norm(f64, Ranges),
     Refused(u8),
 }
 
@@ -68,7 +72,10 @@ impl Leaf {
                 Ok(k) => Said::Number(k),
                 Err(k) => Said::Refused(k),
             },
-            Leaf::Enorm(v) => double(engine.enorm(v)),
+            Leaf::Enorm(v) => match engine.enorm(v) {
+                Ok((norm, ranges)) => Said::Norm(norm, ranges),
+                Err(k) => Said::Refused(k),
+            },
             Leaf::Upper { apart, n, r, x } => {
                 let mut x = x.clone();
                 written(engine.solve_upper(r, *apart, *n, &mut x), x)
@@ -89,6 +96,11 @@ impl Leaf {
             Said::Number(k) => {
                 out.push_str("ok ");
                 push_number(&mut out, k as u64);
+            }
+            Said::Norm(norm, ranges) => {
+                out.push_str("ok");
+                push_doubles(&mut out, &[norm]);
+                push_ranges(&mut out, ranges);
             }
             Said::Refused(k) => out.push_str(&format!("refused {k}")),
         }

@@ -1,6 +1,7 @@
 //! Cases for the two workings of document 01, and what the workings make of them.
 
 pub mod apart;
+pub mod arguments;
 pub mod cases;
 pub mod classes;
 pub mod compare;
@@ -9,6 +10,7 @@ pub mod engines;
 pub mod leaf;
 pub mod make_calls;
 pub mod make_leaves;
+pub mod make_norms;
 pub mod make_roots;
 pub mod make_sheets;
 pub mod minpack;
@@ -16,11 +18,15 @@ pub mod near;
 pub mod pool;
 pub mod problem;
 pub mod random;
+pub mod ranges;
 pub mod replies;
 pub mod rooms;
 pub mod sample;
+pub mod sample_ranges;
 pub mod script;
+pub mod seen;
 pub mod sheets;
 pub mod speed;
 pub mod text;
 pub mod trace;
+pub mod wanted;

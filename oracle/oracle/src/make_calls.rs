@@ -1,10 +1,12 @@
 //! Random call scripts: lent rooms, a factoring, then further calls, refused ones between.
 
 use crate::apart;
+use crate::arguments::{argument, length, scalar};
 use crate::near;
 use crate::pool::{Example, Pool};
 use crate::problem;
 use crate::random::Random;
+use crate::ranges;
 use crate::script::{Item, mode_of};
 use api::{Held, State};
 
@@ -13,34 +15,6 @@ struct Scene {
     example: Example,
     store: usize,
     order: usize,
-}
-
-/// Mostly exact, sometimes longer, sometimes too short.
-fn length(rng: &mut Random, needed: usize) -> usize {
-    match rng.below(100) {
-        0..89 => needed,
-        89..98 => needed + 1 + rng.below(3),
-        _ => rng.below(needed),
-    }
-}
-
-/// A vector for a call: of `length`, now and then with a number that is not finite, perhaps in its surplus alone.
-fn argument(rng: &mut Random, v: &[f64]) -> Vec<f64> {
-    let mut v = v.to_vec();
-    let len = length(rng, v.len());
-    v.resize(len, 1.5);
-    if len > 0 && rng.percent(3) {
-        v[rng.below(len)] = rng.pick(&[f64::NAN, f64::INFINITY, f64::NEG_INFINITY]);
-    }
-    v
-}
-
-fn scalar(rng: &mut Random, x: f64) -> f64 {
-    match rng.below(100) {
-        0..3 => rng.pick(&[f64::NAN, f64::INFINITY, f64::NEG_INFINITY]),
-        3..7 => rng.pick(&[0.0, -0.0, -1.0, -5e-324]),
-        _ => x,
-    }
 }
 
 fn factoring(rng: &mut Random, e: &Example) -> Item {
@@ -241,9 +215,9 @@ fn claim(rng: &mut Random, scene: &Scene, items: &mut Vec<Item>) {
     }));
 }
 
-pub fn sequence(rng: &mut Random, pool: &Pool) -> Vec<Item> {
+/// The calls of a sequence; `aside` draws what comes after them.
+fn calls(rng: &mut Random, pool: &Pool, aside: &mut Random) -> Vec<Item> {
     let mut items = Vec::new();
-    let mut aside = rng.aside();
     let drawn = example(rng, pool);
     let scene = lend(rng, drawn, &mut items);
     match rng.below(100) {
@@ -261,18 +235,50 @@ pub fn sequence(rng: &mut Random, pool: &Pool) -> Vec<Item> {
         }
     }
     if aside.percent(4) {
-        items.append(&mut near::items(&mut aside));
+        items.append(&mut near::items(aside));
     }
-    items.push(Item::End);
     items
 }
 
-/// A factoring in its rooms and nothing else.
-pub fn factoring_alone(rng: &mut Random, pool: &Pool) -> Vec<Item> {
+fn factoring_in_rooms(rng: &mut Random, pool: &Pool) -> Vec<Item> {
     let mut items = Vec::new();
     let drawn = example(rng, pool);
     let scene = lend(rng, drawn, &mut items);
     items.push(factoring(rng, &scene.example));
+    items
+}
+
+fn ended(mut items: Vec<Item>) -> Vec<Item> {
     items.push(Item::End);
     items
+}
+
+/// One sequence in thirteen ends with what is drawn for the ranges (02, #106).
+pub fn sequence(rng: &mut Random, pool: &Pool) -> Vec<Item> {
+    let mut aside = rng.aside();
+    let mut items = calls(rng, pool, &mut aside);
+    if aside.percent(8) {
+        items.append(&mut ranges::items(&mut aside));
+    }
+    ended(items)
+}
+
+/// A factoring in its rooms and nothing else; after one in twenty-five, one for the ranges in rooms of its own.
+pub fn factoring_alone(rng: &mut Random, pool: &Pool) -> Vec<Item> {
+    let mut aside = rng.aside();
+    let mut items = factoring_in_rooms(rng, pool);
+    if aside.percent(4) {
+        items.append(&mut ranges::factoring(&mut aside));
+    }
+    ended(items)
+}
+
+/// The two without what is drawn for the ranges, which the sample has by itself.
+pub fn bare_sequence(rng: &mut Random, pool: &Pool) -> Vec<Item> {
+    let mut aside = rng.aside();
+    ended(calls(rng, pool, &mut aside))
+}
+
+pub fn bare_factoring(rng: &mut Random, pool: &Pool) -> Vec<Item> {
+    ended(factoring_in_rooms(rng, pool))
 }

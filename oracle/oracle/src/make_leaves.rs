@@ -1,13 +1,14 @@
 //! Leaf vectors: a fixed list of edge cases first, then random ones.
 
 use crate::leaf::Leaf;
+use crate::make_norms::{norms, ranges};
 use crate::make_roots::{hard_roots, roots};
 use crate::problem;
 use crate::random::Random;
 
-const RDWARF: f64 = 3.834e-20;
-const RGIANT: f64 = 1.304e19;
-const TINY: f64 = f64::from_bits(1);
+pub const RDWARF: f64 = 3.834e-20;
+pub const RGIANT: f64 = 1.304e19;
+pub const TINY: f64 = f64::from_bits(1);
 
 pub fn around(x: f64) -> [f64; 3] {
     [x.next_down(), x, x.next_up()]
@@ -109,50 +110,6 @@ fn largest(out: &mut Vec<Leaf>) {
     }
 }
 
-/// The limits of the norm for its length, alone and beside numbers of the other two kinds.
-fn norms(out: &mut Vec<Leaf>) {
-    out.push(Leaf::Enorm(vec![3.0, 4.0]));
-    for len in [0, 1, 2, 3, 16, 127, 128, 129, 1000] {
-        let agiant = RGIANT / len as f64;
-        let firsts = [
-            around(RDWARF),
-            around(agiant),
-            [0.0, 1.0, f64::NAN],
-            [f64::INFINITY, TINY, f64::MAX],
-        ]
-        .concat();
-        for first in firsts {
-            for rest in [
-                0.0,
-                -1.0,
-                1e-30,
-                RDWARF,
-                agiant,
-                1e300,
-                f64::INFINITY,
-                f64::NAN,
-            ] {
-                let mut v = vec![rest; len];
-                if len > 0 {
-                    v[0] = first;
-                }
-                out.push(Leaf::Enorm(v.clone()));
-                v.reverse();
-                out.push(Leaf::Enorm(v));
-            }
-        }
-    }
-    for v in [
-        [1e-25, 1e-30, 5e-324],
-        [1e-30, 1e-25, 1e-21],
-        [1e-19, 1e-20, 3e-20],
-        [1e19, 1e25, 1e-25],
-        [1e30, 1e20, 1.0],
-    ] {
-        out.push(Leaf::Enorm(v.to_vec()));
-    }
-}
-
 fn triangles(out: &mut Vec<Leaf>) {
     let r: Vec<f64> = (0..30).map(|k| f64::from(k * 7 % 11) - 4.0).collect();
     for (apart, n, rlen, xlen) in [
@@ -203,6 +160,7 @@ pub fn edges() -> Vec<Leaf> {
     largest(&mut out);
     norms(&mut out);
     triangles(&mut out);
+    ranges(&mut out);
     out
 }
 

@@ -4,7 +4,8 @@ use crate::random::Random;
 use crate::script::Item;
 use api::{Held, State};
 
-fn lent(rng: &mut Random, m: usize, n: usize) -> Item {
+/// Rooms of exact lengths.
+pub fn lent(rng: &mut Random, m: usize, n: usize) -> Item {
     Item::Rooms {
         store: n * n + 4 * n,
         order: n,

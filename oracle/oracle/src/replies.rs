@@ -1,10 +1,11 @@
 //! What calls answer, and how that is written.
 
 use crate::text::{push_double, push_doubles, push_number, push_numbers};
+use api::Ranges;
 
-/// What a call that is not refused answers.
+/// The numbers of an answer.
 #[derive(Clone, Debug)]
-pub enum Answer {
+pub enum Told {
     Done,
     Doubles(Vec<f64>),
     Found {
@@ -15,6 +16,26 @@ pub enum Answer {
     Count(usize),
 }
 
+/// What a call that is not refused answers. Factoring, norm of Jx, scaling and search tell their ranges too (02, #106).
+#[derive(Clone, Debug)]
+pub struct Answer {
+    pub told: Told,
+    pub ranges: Option<Ranges>,
+}
+
+impl Answer {
+    pub fn with(told: Told, ranges: Ranges) -> Answer {
+        let ranges = Some(ranges);
+        Answer { told, ranges }
+    }
+}
+
+impl From<Told> for Answer {
+    fn from(told: Told) -> Answer {
+        Answer { told, ranges: None }
+    }
+}
+
 #[derive(Clone, Debug)]
 pub struct Reply {
     pub answer: Result<Answer, u8>,
@@ -22,28 +43,43 @@ pub struct Reply {
     pub scaling: Option<Vec<f64>>,
 }
 
-fn write_answer(answer: &Result<Answer, u8>, out: &mut String) {
-    match answer {
-        Err(k) => out.push_str(&format!("refused {k}")),
-        Ok(Answer::Done) => out.push_str("ok"),
-        Ok(Answer::Doubles(v)) => {
-            out.push_str("ok");
-            push_doubles(out, v);
-        }
-        Ok(Answer::Found {
+/// Small, then large.
+pub fn push_ranges(out: &mut String, ranges: Ranges) {
+    push_numbers(out, &[ranges.small, ranges.large].map(usize::from));
+}
+
+fn write_told(told: &Told, out: &mut String) {
+    match told {
+        Told::Done => {}
+        Told::Doubles(v) => push_doubles(out, v),
+        Told::Found {
             lambda,
             norm,
             trials,
-        }) => {
-            out.push_str("ok ");
+        } => {
+            out.push(' ');
             push_double(out, *lambda);
             out.push(' ');
             push_double(out, *norm);
             push_numbers(out, &[*trials]);
         }
-        Ok(Answer::Count(k)) => {
-            out.push_str("ok ");
+        Told::Count(k) => {
+            out.push(' ');
             push_number(out, *k as u64);
+        }
+    }
+}
+
+fn write_answer(answer: &Result<Answer, u8>, out: &mut String) {
+    match answer {
+        Err(k) => out.push_str(&format!("refused {k}")),
+        Ok(answer) => {
+            out.push_str("ok");
+            write_told(&answer.told, out);
+            answer
+                .ranges
+                .iter()
+                .for_each(|ranges| push_ranges(out, *ranges));
         }
     }
     out.push('\n');

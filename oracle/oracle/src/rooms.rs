@@ -3,10 +3,10 @@
 use crate::classes::Asked;
 use crate::engines::Working;
 use crate::random::STEP;
-use crate::replies::{Answer, Reply};
+use crate::replies::{Answer, Reply, Told};
 use crate::script::{Item, held_number};
 use crate::text::{bits, canonical, push_doubles, push_numbers};
-use api::{EMPTY, State};
+use api::{EMPTY, Found, State};
 
 #[derive(Clone, Debug)]
 pub struct Rooms {
@@ -29,6 +29,14 @@ impl Junk {
         (0..len)
             .map(|_| canonical(f64::from_bits(self.next())))
             .collect()
+    }
+}
+
+fn found(f: Found) -> Told {
+    Told::Found {
+        lambda: f.lambda,
+        norm: f.norm,
+        trials: f.trials,
     }
 }
 
@@ -121,9 +129,9 @@ impl Rooms {
             *step_bound,
         );
         self.state = state;
-        let answer = result.map(|start| match start {
-            Some(start) => Answer::Doubles(vec![start.xnorm, start.radius]),
-            None => Answer::Done,
+        let answer = result.map(|(start, ranges)| match start {
+            Some(start) => Answer::with(Told::Doubles(vec![start.xnorm, start.radius]), ranges),
+            None => Answer::with(Told::Done, ranges),
         });
         Reply {
             answer,
@@ -139,8 +147,8 @@ impl Rooms {
             out,
             state,
         } = self;
-        let done = |()| Answer::Done;
-        let double = |x| Answer::Doubles(vec![x]);
+        let done = |()| Told::Done.into();
+        let double = |x| Told::Doubles(vec![x]);
         let (answer, after) = match item {
             Item::Factor {
                 m,
@@ -149,7 +157,7 @@ impl Rooms {
                 residuals,
             } => {
                 let (r, s) = engine.factor(*m, *n, jacobian, residuals, store, order, bench);
-                (r.map(done), s)
+                (r.map(|ranges| Answer::with(Told::Done, ranges)), s)
             }
             Item::Zero => {
                 let (r, s) = engine.solve_with_zero_diagonal(*state, store, order, out);
@@ -169,11 +177,11 @@ impl Rooms {
             }
             Item::Gradient(b_norm) => {
                 let (r, s) = engine.max_a_t_b_scaled(*state, store, order, *b_norm);
-                (r.map(double), s)
+                (r.map(|x| double(x).into()), s)
             }
             Item::Norm(x) => {
                 let (r, s) = engine.a_x_norm(*state, store, order, x);
-                (r.map(double), s)
+                (r.map(|(x, ranges)| Answer::with(double(x), ranges)), s)
             }
             Item::Search {
                 diag,
@@ -181,22 +189,15 @@ impl Rooms {
                 lambda,
             } => {
                 let (r, s) = engine.search(*state, store, order, diag, *radius, *lambda, out);
-                (
-                    r.map(|f| Answer::Found {
-                        lambda: f.lambda,
-                        norm: f.norm,
-                        trials: f.trials,
-                    }),
-                    s,
-                )
+                (r.map(|(f, ranges)| Answer::with(found(f), ranges)), s)
             }
             Item::Determined => {
                 let (r, s) = engine.determined(*state, store);
-                (r.map(Answer::Count), s)
+                (r.map(|count| Told::Count(count).into()), s)
             }
             Item::NonSingular => {
                 let (r, s) = engine.is_non_singular(*state, store);
-                (r.map(|yes| Answer::Count(usize::from(yes))), s)
+                (r.map(|yes| Told::Count(usize::from(yes)).into()), s)
             }
             _ => unreachable!("not a call"),
         };

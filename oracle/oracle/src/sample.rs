@@ -1,10 +1,13 @@
 //! The sample that the gate replays where there is no Rust: fixed cases, then cases thinned from those of `make`.
 
-use crate::cases::{Kind, scripts};
-use crate::coverage::{Coverage, wanted_of_calls};
+use crate::cases::drawn;
+use crate::coverage::Coverage;
 use crate::engines::PLAIN;
+use crate::make_calls::{bare_factoring, bare_sequence};
 use crate::random::Random;
+use crate::sample_ranges;
 use crate::script::Item;
+use crate::wanted::wanted_but_ranges;
 
 /// How many are kept: factorings alone; sequences without a search that gets past its input checks; sequences with one.
 const FACTORINGS: usize = 250;
@@ -17,7 +20,7 @@ const DRAWN: u64 = 4000;
 const LONG: usize = 120;
 const LONG_KEPT: usize = 2;
 
-fn case(m: usize, n: usize, jacobian: &[f64], residuals: &[f64], calls: &[Item]) -> Vec<Item> {
+pub fn case(m: usize, n: usize, jacobian: &[f64], residuals: &[f64], calls: &[Item]) -> Vec<Item> {
     let rooms = Item::Rooms {
         store: n * n + 4 * n,
         order: n,
@@ -34,7 +37,7 @@ fn case(m: usize, n: usize, jacobian: &[f64], residuals: &[f64], calls: &[Item])
     [&[rooms, factor], calls, &[Item::End]].concat()
 }
 
-fn search(diag: &[f64], radius: f64, lambda: f64) -> Item {
+pub fn search(diag: &[f64], radius: f64, lambda: f64) -> Item {
     Item::Search {
         diag: diag.to_vec(),
         radius,
@@ -205,9 +208,9 @@ fn thinned(
 }
 
 fn sequences() -> Vec<Vec<Item>> {
-    let (wanted, mut shown) = (wanted_of_calls(), Coverage::default());
+    let (wanted, mut shown) = (wanted_but_ranges(), Coverage::default());
     let (mut with, mut without) = (0, 0);
-    thinned(scripts(Kind::Calls, DRAWN, 2), |items| {
+    thinned(drawn(bare_sequence, DRAWN, 2), |items| {
         let mut own = Coverage::default();
         own.sequence(PLAIN, items);
         let few = wanted
@@ -229,8 +232,8 @@ fn sequences() -> Vec<Vec<Item>> {
 }
 
 pub fn cases() -> Vec<Vec<Item>> {
-    let mut factorings = thinned(scripts(Kind::Factorings, DRAWN, 1), |_| true);
+    let mut factorings = thinned(drawn(bare_factoring, DRAWN, 1), |_| true);
     factorings.truncate(FACTORINGS);
     let fixed = [examples(), limits(), witnesses(), going_on(), held(), near()].concat();
-    [fixed, factorings, sequences()].concat()
+    [fixed, factorings, sequences(), sample_ranges::cases()].concat()
 }

@@ -135,7 +135,7 @@ pub fn ready(engine: &dyn Working, f: &Fields) -> Option<Ready> {
     if f.call == 2 {
         let first = Mode::FirstScaled;
         let (start, _) = engine.update_diag(state, &mut r.store, first, &mut r.diag, diag, last[0]);
-        r.radius = start.ok()??.radius;
+        r.radius = start.ok()?.0?.radius;
     }
     Some(r)
 }

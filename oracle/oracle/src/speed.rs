@@ -37,7 +37,7 @@ impl Rooms {
         for (x, d) in self.step.iter_mut().zip(&self.diag) {
             *x *= d;
         }
-        engine.enorm(&self.step).map_or(0.0, |x| x * 0.1)
+        engine.enorm(&self.step).map_or(0.0, |(x, _)| x * 0.1)
     }
 
     fn further(&mut self, engine: &dyn Working, state: State, mode: u64) -> f64 {
@@ -71,7 +71,7 @@ impl Rooms {
             0.0,
             &mut self.step,
         );
-        found.map_or(0.0, |f| f.lambda + self.step[0])
+        found.map_or(0.0, |(f, _)| f.lambda + self.step[0])
     }
 }
 

@@ -1,12 +1,13 @@
 //! Both workings give the same bits, and the cases reach everything that document 01 tells apart.
 
 use oracle::compare;
-use oracle::coverage::{Coverage, wanted_of_calls, wanted_of_sheets};
+use oracle::coverage::Coverage;
 use oracle::engines::PLAIN;
 use oracle::pool::Pool;
 use oracle::random::Random;
 use oracle::rooms::Rooms;
 use oracle::sheets::Fields;
+use oracle::wanted::{wanted_of_calls, wanted_of_sheets};
 use oracle::{make_calls, make_sheets, script};
 
 #[test]

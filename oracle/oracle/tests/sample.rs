@@ -3,10 +3,11 @@
 use api::{End, Place};
 use oracle::cases::{self, Kind};
 use oracle::classes::CLASSES;
-use oracle::coverage::{Coverage, wanted_of_calls};
+use oracle::coverage::Coverage;
 use oracle::engines::{PLAIN, SHOWN, Working};
 use oracle::rooms::Rooms;
 use oracle::script::Item;
+use oracle::wanted::wanted_of_calls;
 use oracle::{sample, script};
 use std::sync::LazyLock;
 
@@ -111,11 +112,11 @@ fn the_sample_has_what_is_only_run() {
         text.lines().nth(line).unwrap().to_string()
     };
     let found = answer(3, 6);
-    let [ok, lambda, _, trials] = found.split(' ').collect::<Vec<_>>()[..] else {
+    let [ok, lambda, _, trials, "0", "0"] = found.split(' ').collect::<Vec<_>>()[..] else {
         panic!("{found}")
     };
     let lambda = f64::from_bits(u64::from_str_radix(lambda, 16).unwrap());
     assert!((ok, trials) == ("ok", "1") && lambda > 0.0);
-    assert_eq!(answer(8, 0), "ok");
+    assert_eq!(answer(8, 0), "ok 0 0");
     assert_eq!(answer(9, 0), "refused 2");
 }

@@ -1,10 +1,11 @@
 //! Module 2 of document 01: `PivotedQR::new`, and the factoring call.
 
 use crate::leaves::{EPSMCH, all_finite, axpy, dot, enorm, imax, is_negative, max, square};
+use crate::measures::{all_seen, measured};
 use crate::residuals::transform;
 use crate::room::{Room, needed, sizes};
 use crate::root::sqrt;
-use api::{EMPTY, Held, State};
+use api::{EMPTY, Held, Measured, Of, Ranges, State};
 
 /// The bench: m*n places for the Jacobian's copy, column by column, then m for the residuals'.
 struct Bench<'a> {
@@ -19,11 +20,12 @@ fn swap_columns(m: usize, a: &mut [f64], j: usize, k: usize) {
     }
 }
 
-/// The reflection that reduces a column, in place; the new diagonal entry, or none for a zero column.
-fn reflect(axis: &mut [f64]) -> Option<f64> {
-    let mut norm = enorm(axis);
+/// The reflection that reduces a column, in place; the new diagonal entry, or none for a zero column. Beside it, what the
+/// column's norm saw.
+fn reflect(axis: &mut [f64]) -> (Option<f64>, Ranges) {
+    let (mut norm, seen) = enorm(axis);
     if norm == 0.0 {
-        return None;
+        return (None, seen);
     }
     if is_negative(axis[0]) {
         norm = -norm;
@@ -32,24 +34,44 @@ fn reflect(axis: &mut [f64]) -> Option<f64> {
         *x /= norm;
     }
     axis[0] += 1.0;
-    Some(-norm)
+    (Some(-norm), seen)
 }
 
-/// "A column's partial norm is worked out anew when 0.05*(r_diag/work)^2 <= epsmch".
-fn shrink(col: &[f64], r_diag: &mut f64, work: &mut f64) {
+/// "A column's partial norm is worked out anew when 0.05*(r_diag/work)^2 <= epsmch": what that norm saw, or none where it
+/// is not worked out.
+fn shrink(col: &[f64], r_diag: &mut f64, work: &mut f64) -> Option<Ranges> {
     if *r_diag == 0.0 {
-        return;
+        return None;
     }
     let lost = square(col[0] / *r_diag);
     *r_diag *= sqrt(max(1.0 - lost, 0.0));
     if 0.05 * square(*r_diag / *work) <= EPSMCH {
-        *r_diag = enorm(&col[1..]);
-        *work = *r_diag;
+        let (rest, seen) = enorm(&col[1..]);
+        (*r_diag, *work) = (rest, rest);
+        return Some(seen);
+    }
+    None
+}
+
+/// The norms of the columns, each told.
+fn column_norms(m: usize, a: &[f64], norms: &mut [f64], told: &mut Vec<Measured>) {
+    for j in 0..norms.len() {
+        let (norm, seen) = enorm(&a[j * m..(j + 1) * m]);
+        norms[j] = norm;
+        told.push(measured(Of::Column, seen));
     }
 }
 
-/// On exit `a` has the reflections on and below its diagonal and R above, and the answer is R's diagonal.
-fn pivoted_qr(m: usize, n: usize, a: &mut [f64], norms: &[f64], order: &mut [usize]) -> Vec<f64> {
+/// On exit `a` has the reflections on and below its diagonal and R above, and the answer is R's diagonal. Each norm that
+/// is worked out is told; one of a later column only where it is worked out anew.
+fn pivoted_qr(
+    m: usize,
+    a: &mut [f64],
+    norms: &[f64],
+    order: &mut [usize],
+    told: &mut Vec<Measured>,
+) -> Vec<f64> {
+    let n = norms.len();
     let mut r_diag = norms.to_vec();
     let mut work = norms.to_vec();
     for j in 0..m.min(n) {
@@ -62,7 +84,9 @@ fn pivoted_qr(m: usize, n: usize, a: &mut [f64], norms: &[f64], order: &mut [usi
         }
         let (left, right) = a.split_at_mut((j + 1) * m);
         let axis = &mut left[j * m + j..];
-        let Some(diagonal) = reflect(axis) else {
+        let (reflected, seen) = reflect(axis);
+        told.push(measured(Of::Pivot(j), seen));
+        let Some(diagonal) = reflected else {
             r_diag[j] = 0.0;
             continue;
         };
@@ -72,7 +96,8 @@ fn pivoted_qr(m: usize, n: usize, a: &mut [f64], norms: &[f64], order: &mut [usi
             let col = &mut right[start + j..start + m];
             let factor = -(dot(col, axis) / axis[0]);
             axpy(factor, axis, col);
-            shrink(col, &mut r_diag[k], &mut work[k]);
+            let anew = shrink(col, &mut r_diag[k], &mut work[k]);
+            told.extend(anew.map(|seen| measured(Of::Anew, seen)));
         }
     }
     r_diag
@@ -91,20 +116,40 @@ fn lay_r(m: usize, a: &[f64], r_diag: &[f64], room: &mut Room) {
     }
 }
 
-fn work_out(n: usize, bench: &mut Bench, store: &mut [f64], order: &mut [usize]) -> Result<(), u8> {
+fn work_out(
+    n: usize,
+    bench: &mut Bench,
+    store: &mut [f64],
+    order: &mut [usize],
+) -> Result<Ranges, u8> {
     let m = bench.m;
+    let mut told = Vec::new();
     let mut room = Room::of(n, store);
     for j in 0..n {
         order[j] = j;
-        room.norms[j] = enorm(&bench.a[j * m..(j + 1) * m]);
     }
-    let r_diag = pivoted_qr(m, n, bench.a, room.norms, order);
+    column_norms(m, bench.a, room.norms, &mut told);
+    let r_diag = pivoted_qr(m, bench.a, room.norms, order, &mut told);
     transform(m, n, bench.a, bench.b, room.qt_b);
     lay_r(m, bench.a, &r_diag, &mut room);
     room.l_diag.fill(0.0);
     room.work.fill(0.0);
     let finite = all_finite(room.square) && all_finite(room.norms) && all_finite(room.qt_b);
-    if finite { Ok(()) } else { Err(8) }
+    if finite { Ok(all_seen(&told)) } else { Err(8) }
+}
+
+/// The norms of a factoring that is not refused 2, 3 or 6 for its Jacobian.
+pub fn norms(m: usize, n: usize, jacobian: &[f64]) -> Option<Vec<Measured>> {
+    let fits = sizes(m, n).is_ok() && jacobian.len() >= m * n;
+    if !fits || !all_finite(&jacobian[..m * n]) {
+        return None;
+    }
+    let mut a = jacobian[..m * n].to_vec();
+    let (mut norms, mut order) = (vec![0.0; n], vec![0; n]);
+    let mut told = Vec::new();
+    column_norms(m, &a, &mut norms, &mut told);
+    pivoted_qr(m, &mut a, &norms, &mut order, &mut told);
+    Some(told)
 }
 
 pub fn factor(
@@ -115,7 +160,7 @@ pub fn factor(
     store: &mut [f64],
     order: &mut [usize],
     bench: &mut [f64],
-) -> (Result<(), u8>, State) {
+) -> (Result<Ranges, u8>, State) {
     if let Err(k) = sizes(m, n) {
         return (Err(k), EMPTY);
     }

@@ -1,6 +1,7 @@
 //! Module 1 of document 01: the leaves, each operation rounded once.
 
 use crate::root::sqrt;
+use api::Ranges;
 
 pub const EPSMCH: f64 = f64::from_bits((1023 - 52) << 52);
 pub const DWARF: f64 = f64::from_bits(1 << 52);
@@ -78,7 +79,24 @@ pub fn imax(v: &[f64]) -> usize {
     place
 }
 
-pub fn enorm(v: &[f64]) -> f64 {
+/// What the norm of these numbers tells beside its number (02, #106), by the order of the bits of absolute values, in which
+/// zero comes first and infinity and NaN come last. Small: after zero, up to rdwarf. Large: from agiant on, which is
+/// "rgiant/length" by this norm's own length.
+pub fn ranges(v: &[f64]) -> Ranges {
+    let size = |x: f64| abs(x).to_bits();
+    let (rdwarf, agiant) = (size(RDWARF), size(RGIANT / v.len() as f64));
+    Ranges {
+        small: v.iter().any(|&x| (1..=rdwarf).contains(&size(x))),
+        large: v.iter().any(|&x| size(x) >= agiant),
+    }
+}
+
+/// The norm and its ranges.
+pub fn enorm(v: &[f64]) -> (f64, Ranges) {
+    (norm(v), ranges(v))
+}
+
+fn norm(v: &[f64]) -> f64 {
     let agiant = RGIANT / v.len() as f64;
     let (mut s1, mut s2, mut s3) = (0.0, 0.0, 0.0);
     let (mut x1max, mut x3max) = (0.0, 0.0);

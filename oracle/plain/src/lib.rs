@@ -13,8 +13,9 @@ mod root;
 mod search;
 mod sheet;
 mod solves;
+mod trials;
 
-use api::{Engine, Found, Leaves, Mode, Run, Start, State, Traced};
+use api::{Engine, Found, Leaves, Measured, Mode, Ranges, Run, Start, State, Traced};
 
 pub struct Plain;
 
@@ -65,7 +66,7 @@ impl Leaves for Plain {
             Ok(leaves::imax(v))
         }
     }
-    fn enorm(&self, v: &[f64]) -> Result<f64, u8> {
+    fn enorm(&self, v: &[f64]) -> Result<(f64, Ranges), u8> {
         if v.len() > room::MOST_ROWS {
             Err(2)
         } else {
@@ -92,7 +93,7 @@ impl Engine for Plain {
         store: &mut [f64],
         order: &mut [usize],
         bench: &mut [f64],
-    ) -> (Result<(), u8>, State) {
+    ) -> (Result<Ranges, u8>, State) {
         factoring::factor(m, n, jacobian, residuals, store, order, bench)
     }
     fn solve_with_zero_diagonal(
@@ -147,7 +148,7 @@ impl Engine for Plain {
         store: &mut [f64],
         order: &[usize],
         x: &[f64],
-    ) -> (Result<f64, u8>, State) {
+    ) -> (Result<(f64, Ranges), u8>, State) {
         measures::a_x_norm(state, store, order, x)
     }
     fn update_diag(
@@ -158,7 +159,7 @@ impl Engine for Plain {
         diag: &mut [f64],
         x: &[f64],
         step_bound: f64,
-    ) -> (Result<Option<Start>, u8>, State) {
+    ) -> (Result<(Option<Start>, Ranges), u8>, State) {
         measures::update_diag(state, store, mode, diag, x, step_bound)
     }
     fn search(
@@ -170,7 +171,7 @@ impl Engine for Plain {
         radius: f64,
         lambda: f64,
         out: &mut [f64],
-    ) -> (Result<Found, u8>, State) {
+    ) -> (Result<(Found, Ranges), u8>, State) {
         search::search(state, store, order, diag, radius, lambda, out)
     }
     fn determined(&self, state: State, store: &mut [f64]) -> (Result<usize, u8>, State) {
@@ -195,5 +196,8 @@ impl Traced for Plain {
         lambda: f64,
     ) -> Option<Run> {
         search::run(state, store, order, diag, radius, lambda)
+    }
+    fn norms(&self, m: usize, n: usize, jacobian: &[f64]) -> Option<Vec<Measured>> {
+        factoring::norms(m, n, jacobian)
     }
 }

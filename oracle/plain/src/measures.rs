@@ -1,8 +1,23 @@
-//! Module 6 of document 01: gradient, norm of Jx, scaling; and the two questions about R's diagonal.
+//! Module 6 of document 01: gradient, norm of Jx, scaling; and the two questions about R's diagonal. Also the ranges of
+//! several norms (02, #106).
 
 use crate::leaves::{abs, all_finite, axpy, dot, enorm, is_finite, max};
 use crate::room::{Room, admit};
-use api::{Mode, Start, State};
+use api::{Measured, Mode, Of, Ranges, Start, State};
+
+pub fn measured(of: Of, ranges: Ranges) -> Measured {
+    Measured { of, ranges }
+}
+
+/// "Small seen, large seen, in any norm worked out for that call."
+pub fn all_seen(norms: &[Measured]) -> Ranges {
+    let mut seen = Ranges::NEITHER;
+    for norm in norms {
+        seen.small |= norm.ranges.small;
+        seen.large |= norm.ranges.large;
+    }
+    seen
+}
 
 /// None where the Rust gives None. "The gradient skips columns of norm zero."
 fn largest(room: &Room, order: &[usize], b: &[f64]) -> Option<f64> {
@@ -56,7 +71,7 @@ pub fn a_x_norm(
     store: &mut [f64],
     order: &[usize],
     x: &[f64],
-) -> (Result<f64, u8>, State) {
+) -> (Result<(f64, Ranges), u8>, State) {
     let n = match admit(state, store, Some(order), &[x.len()], false) {
         Ok(n) => n,
         Err(k) => return (Err(k), state),
@@ -70,7 +85,9 @@ pub fn a_x_norm(
         axpy(x[order[i]], room.part(i, 0, i + 1), &mut sums[..i + 1]);
     }
     room.work.fill(0.0);
-    (finite_or_8(Some(enorm(&sums))), state)
+    let (norm, seen) = enorm(&sums);
+    let answer = finite_or_8(Some(norm)).map(|norm| (norm, seen));
+    (answer, state)
 }
 
 /// The new scaling. "Unscaled mode keeps what was lent."
@@ -88,21 +105,26 @@ fn entries(mode: Mode, norms: &[f64], lent: &[f64]) -> Vec<f64> {
 }
 
 /// Refusal 8 "when xnorm or radius is not finite, or the radius is rounded to zero".
-fn start(mode: Mode, scaling: &[f64], x: &[f64], step_bound: f64) -> Result<Start, u8> {
+fn start(
+    mode: Mode,
+    scaling: &[f64],
+    x: &[f64],
+    step_bound: f64,
+) -> Result<(Option<Start>, Ranges), u8> {
     let mut products = x.to_vec();
     if mode == Mode::FirstScaled {
         for j in 0..x.len() {
             products[j] = scaling[j] * x[j];
         }
     }
-    let xnorm = enorm(&products);
+    let (xnorm, seen) = enorm(&products);
     let radius = if xnorm == 0.0 {
         step_bound
     } else {
         step_bound * xnorm
     };
     if is_finite(xnorm) && is_finite(radius) && radius != 0.0 {
-        Ok(Start { xnorm, radius })
+        Ok((Some(Start { xnorm, radius }), seen))
     } else {
         Err(8)
     }
@@ -132,16 +154,17 @@ fn scale(
     diag: &mut [f64],
     x: &[f64],
     step_bound: f64,
-) -> Result<Option<Start>, u8> {
+) -> Result<(Option<Start>, Ranges), u8> {
     let new = entries(mode, norms, diag);
     let scaled = mode == Mode::FirstScaled || mode == Mode::LaterScaled;
     if scaled && !all_finite(&new) {
         return Err(8);
     }
+    // A later call works out no norm, so that it has seen neither.
     let answer = if is_first(mode) {
-        Some(start(mode, &new, x, step_bound)?)
+        start(mode, &new, x, step_bound)?
     } else {
-        None
+        (None, Ranges::NEITHER)
     };
     diag.copy_from_slice(&new);
     Ok(answer)
@@ -154,7 +177,7 @@ pub fn update_diag(
     diag: &mut [f64],
     x: &[f64],
     step_bound: f64,
-) -> (Result<Option<Start>, u8>, State) {
+) -> (Result<(Option<Start>, Ranges), u8>, State) {
     let x_length = if is_first(mode) { x.len() } else { usize::MAX };
     let n = match admit(state, store, None, &[diag.len(), x_length], false) {
         Ok(n) => n,

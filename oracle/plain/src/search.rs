@@ -1,58 +1,13 @@
 //! Module 7 of document 01: the search, written as the run that it makes; the answer is read off the run.
 
-use crate::leaves::{DWARF, abs, all_finite, axpy_zero, enorm, is_finite, is_negative, max, min};
-use crate::measures::full_rank;
+use crate::leaves::{DWARF, all_finite, enorm, is_finite, max, min};
+use crate::measures::{all_seen, full_rank, measured};
 use crate::room::{Room, admit, holding};
-use crate::root::sqrt;
-use crate::solves::{damped_working, held_mul, held_solve, zero_working};
-use api::{End, Found, Held, Place, Run, State, Stop, Trial};
+use crate::solves::{held_mul, zero_working};
+use crate::trials::{Asked, Stand, newton, products, trials};
+use api::{End, Found, Held, Of, Place, Ranges, Run, State, Stop};
 
-/// What a search is given, past its checks.
-struct Asked<'a> {
-    m: usize,
-    order: &'a [usize],
-    diag: &'a [f64],
-    radius: f64,
-    lambda: f64,
-}
-
-/// What the next trial starts from.
-struct Stand {
-    lambda: f64,
-    lower: f64,
-    upper: f64,
-    fp: f64,
-}
-
-fn products(p: &[f64], diag: &[f64]) -> Vec<f64> {
-    let mut out = p.to_vec();
-    for j in 0..p.len() {
-        out[j] *= diag[j];
-    }
-    out
-}
-
-/// Newton's quotient ((fp/delta)/norm)/norm, by a held solve: lower bound and correction. The flag says that the
-/// solve gave a number that is not finite, which by itself refuses nothing.
-fn newton(
-    room: &mut Room,
-    held: Held,
-    asked: &Asked,
-    scaled: &[f64],
-    norm: f64,
-    fp: f64,
-) -> (f64, bool) {
-    let mut rhs = scaled.to_vec();
-    for j in 0..rhs.len() {
-        rhs[j] /= norm;
-        rhs[j] *= asked.diag[j];
-    }
-    let x = held_solve(room, held, asked.order, &rhs);
-    let length = enorm(&x);
-    (((fp / asked.radius) / length) / length, !all_finite(&x))
-}
-
-fn gradient_norm(room: &mut Room, asked: &Asked) -> f64 {
+fn gradient_norm(room: &mut Room, asked: &Asked) -> (f64, Ranges) {
     let mut g = held_mul(room, Held::Zero);
     for j in 0..g.len() {
         g[j] /= asked.diag[asked.order[j]];
@@ -69,103 +24,14 @@ fn upper_bound(gnorm: f64, radius: f64) -> f64 {
     }
 }
 
-/// One trial: a damped solve and its scaled norm. `Err` where lambda is not finite: then there is no solve.
-fn trial(
-    room: &mut Room,
-    asked: &Asked,
-    stand: &mut Stand,
-    step: &mut [f64],
-) -> Result<(Trial, Vec<f64>), Place> {
-    if stand.lambda == 0.0 {
-        stand.lambda = max(DWARF, stand.upper * 0.001);
-    }
-    if !is_finite(stand.lambda) {
-        return Err(Place::Lambda);
-    }
-    let mut damping = vec![0.0; room.n];
-    axpy_zero(sqrt(stand.lambda), &asked.diag[..room.n], &mut damping);
-    damped_working(room, asked.order, &damping, step);
-    let scaled = products(step, asked.diag);
-    let trial = Trial {
-        lambda: stand.lambda,
-        norm: enorm(&scaled),
-        fp: None,
-        lower: stand.lower,
-        upper: stand.upper,
-        infinite_damping: !all_finite(&damping),
-        infinite_solve: false,
-    };
-    Ok((trial, scaled))
-}
-
-/// What follows a trial's solve: the run's end, or the stand for the next trial. "t = 10, tested before fp is worked
-/// out", so trial ten has no correction that could refuse.
-fn judge(
-    room: &mut Room,
-    asked: &Asked,
-    t: usize,
-    trial: &mut Trial,
-    scaled: &[f64],
-    stand: &mut Stand,
-) -> Option<End> {
-    if !is_finite(trial.norm) {
-        return Some(End::Refused(Place::TrialNorm));
-    }
-    if t == 10 {
-        return Some(End::Stopped(Stop::Ten));
-    }
-    let previous = stand.fp;
-    let fp = trial.norm - asked.radius;
-    stand.fp = fp;
-    trial.fp = Some(fp);
-    if abs(fp) <= asked.radius * 0.1 {
-        return Some(End::Stopped(Stop::Within));
-    }
-    if stand.lower == 0.0 && fp <= previous && is_negative(previous) {
-        return Some(End::Stopped(Stop::Falling));
-    }
-    let (correction, infinite) = newton(room, Held::Damped, asked, scaled, trial.norm, fp);
-    trial.infinite_solve = infinite;
-    if !is_finite(correction) {
-        return Some(End::Refused(Place::Correction));
-    }
-    if is_negative(fp) {
-        stand.upper = min(stand.upper, stand.lambda);
-    } else {
-        stand.lower = max(stand.lower, stand.lambda);
-    }
-    stand.lambda = max(stand.lower, stand.lambda + correction);
-    None
-}
-
-fn trials(
-    room: &mut Room,
-    asked: &Asked,
-    mut stand: Stand,
-    run: &mut Run,
-    step: &mut [f64],
-) -> End {
-    for t in 1.. {
-        let (mut trial, scaled) = match trial(room, asked, &mut stand, step) {
-            Ok(done) => done,
-            Err(place) => return End::Refused(place),
-        };
-        let end = judge(room, asked, t, &mut trial, &scaled, &mut stand);
-        run.trials.push(trial);
-        if let Some(end) = end {
-            return end;
-        }
-    }
-    unreachable!("trial ten ends the loop")
-}
-
 /// The part before the trials: the undamped solve, the bounds and the first lambda.
 fn opening(room: &mut Room, asked: &Asked, run: &mut Run, step: &mut [f64]) -> Result<Stand, End> {
     let regular = full_rank(room, asked.m);
     zero_working(room, asked.m, asked.order, step);
     let scaled = products(step, asked.diag);
-    let norm = enorm(&scaled);
+    let (norm, seen) = enorm(&scaled);
     run.undamped_norm = norm;
+    run.norms.push(measured(Of::Undamped, seen));
     if !is_finite(norm) {
         return Err(End::Refused(Place::UndampedNorm));
     }
@@ -175,12 +41,15 @@ fn opening(room: &mut Room, asked: &Asked, run: &mut Run, step: &mut [f64]) -> R
     }
     let mut lower = 0.0;
     if regular {
-        (lower, run.infinite_first_solve) = newton(room, Held::Zero, asked, &scaled, norm, fp);
+        let bound = newton(room, Held::Zero, asked, &scaled, norm, fp);
+        (lower, run.infinite_first_solve) = (bound.quotient, bound.infinite);
+        run.norms.push(measured(Of::LowerBound, bound.seen));
     }
     if !is_finite(lower) {
         return Err(End::Refused(Place::LowerBound));
     }
-    let gnorm = gradient_norm(room, asked);
+    let (gnorm, seen) = gradient_norm(room, asked);
+    run.norms.push(measured(Of::Gnorm, seen));
     if !is_finite(gnorm) {
         return Err(End::Refused(Place::Gnorm));
     }
@@ -202,6 +71,7 @@ fn whole_run(room: &mut Room, asked: &Asked, step: &mut [f64]) -> Run {
         undamped_norm: 0.0,
         infinite_first_solve: false,
         trials: Vec::new(),
+        norms: Vec::new(),
         end: End::Stopped(Stop::Undamped),
     };
     run.end = match opening(room, asked, &mut run, step) {
@@ -212,20 +82,20 @@ fn whole_run(room: &mut Room, asked: &Asked, step: &mut [f64]) -> Run {
     run
 }
 
-fn answer(run: &Run) -> Result<Found, u8> {
-    match (run.end, run.trials.last()) {
-        (End::Refused(_), _) => Err(8),
-        (_, None) => Ok(Found {
-            lambda: 0.0,
-            norm: run.undamped_norm,
-            trials: 0,
-        }),
-        (_, Some(last)) => Ok(Found {
-            lambda: last.lambda,
-            norm: last.norm,
-            trials: run.trials.len(),
-        }),
+fn answer(run: &Run) -> Result<(Found, Ranges), u8> {
+    if let End::Refused(_) = run.end {
+        return Err(8);
     }
+    let (lambda, norm) = match run.trials.last() {
+        None => (0.0, run.undamped_norm),
+        Some(last) => (last.lambda, last.norm),
+    };
+    let found = Found {
+        lambda,
+        norm,
+        trials: run.trials.len(),
+    };
+    Ok((found, all_seen(&run.norms)))
 }
 
 /// Tests 6 and 7 of a search.
@@ -278,7 +148,7 @@ pub fn search(
     radius: f64,
     lambda: f64,
     out: &mut [f64],
-) -> (Result<Found, u8>, State) {
+) -> (Result<(Found, Ranges), u8>, State) {
     let (run, step) = match checked_run(state, store, order, diag, radius, lambda, out.len()) {
         Ok(done) => done,
         Err(k) => return (Err(k), state),

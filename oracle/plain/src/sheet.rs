@@ -113,7 +113,8 @@ fn scaling(
         &sheet.tail,
         sheet.bound,
     );
-    let radius = start?.expect("a first scaling gives a radius").radius;
+    let (start, _) = start?;
+    let radius = start.expect("a first scaling gives a radius").radius;
     Ok((diag, radius, Some(radius)))
 }
 
@@ -145,7 +146,7 @@ fn work_out(bytes: &[u8]) -> Result<String, u8> {
         sheet.lambda,
         &mut step,
     );
-    let found = found?;
+    let (found, _) = found?;
     let (places, _) = determined(state, &mut store);
     Ok(lines(shown, found, places?, &step))
 }

@@ -17,7 +17,7 @@ fn powers() -> impl Iterator<Item = i32> {
 }
 
 fn differ(v: &[f64]) -> Option<(f64, f64)> {
-    let (leaf, published) = (Shown.enorm(v).expect("short"), published::norm(v));
+    let (leaf, published) = (Shown.enorm(v).expect("short").0, published::norm(v));
     let same = leaf.to_bits() == published.to_bits() || leaf.is_nan() && published.is_nan();
     (!same).then_some((leaf, published))
 }

@@ -4,8 +4,8 @@ use crate::factoring::{self, unordered};
 use crate::qr::doors::{Problem, vector};
 use crate::room::{Room, all_finite, finite, unless};
 use crate::searching::{self, Question};
-use crate::{Shown, scaling, sheet};
-use api::{Engine, Found, Held, Mode, Start, State};
+use crate::{Shown, recorder, scaling, sheet};
+use api::{Engine, Found, Held, Mode, Ranges, Start, State};
 
 /// The tests of a solve, without those of its numbers.
 fn check_solve(state: State, store: &[f64], order: &[usize], others: &[usize]) -> Result<Room, u8> {
@@ -97,13 +97,23 @@ fn max_a_t_b_scaled(
     measure.filter(|measure| measure.is_finite()).ok_or(8)
 }
 
-fn a_x_norm(state: State, store: &mut [f64], order: &[usize], x: &[f64]) -> Result<f64, u8> {
+fn a_x_norm(
+    state: State,
+    store: &mut [f64],
+    order: &[usize],
+    x: &[f64],
+) -> Result<(f64, Ranges), u8> {
     let room = check_solve(state, store, order, &[x.len()])?;
     finite(&x[..room.n])?;
     let mut problem = Problem::open(&room, store, &order[..room.n]);
-    let norm = problem.a_x_norm(&vector(&x[..room.n]));
+    let (norm, norms) = recorder::of(|| problem.a_x_norm(&vector(&x[..room.n])));
     room.clear_work(store);
-    if norm.is_finite() { Ok(norm) } else { Err(8) }
+    let ranges = recorder::all(&norms);
+    if norm.is_finite() {
+        Ok((norm, ranges))
+    } else {
+        Err(8)
+    }
 }
 
 impl Engine for Shown {
@@ -116,7 +126,7 @@ impl Engine for Shown {
         store: &mut [f64],
         order: &mut [usize],
         bench: &mut [f64],
-    ) -> (Result<(), u8>, State) {
+    ) -> (Result<Ranges, u8>, State) {
         let lent = factoring::Lent {
             store,
             order,
@@ -201,7 +211,7 @@ impl Engine for Shown {
         store: &mut [f64],
         order: &[usize],
         x: &[f64],
-    ) -> (Result<f64, u8>, State) {
+    ) -> (Result<(f64, Ranges), u8>, State) {
         (a_x_norm(state, store, order, x), state)
     }
 
@@ -213,7 +223,7 @@ impl Engine for Shown {
         diag: &mut [f64],
         x: &[f64],
         step_bound: f64,
-    ) -> (Result<Option<Start>, u8>, State) {
+    ) -> (Result<(Option<Start>, Ranges), u8>, State) {
         let lent = scaling::Lent {
             diag,
             x,
@@ -231,7 +241,7 @@ impl Engine for Shown {
         radius: f64,
         lambda: f64,
         out: &mut [f64],
-    ) -> (Result<Found, u8>, State) {
+    ) -> (Result<(Found, Ranges), u8>, State) {
         let asked = Question {
             order,
             diag,

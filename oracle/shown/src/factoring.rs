@@ -1,8 +1,9 @@
 //! Factoring, and the questions about R that need no more than the store.
 
 use crate::qr::doors::{self, Problem};
+use crate::recorder::{self, Norm};
 use crate::room::{Room, all_finite, finite};
-use api::{EMPTY, Held, State};
+use api::{EMPTY, Held, Measured, Of, Ranges, State};
 
 /// What factoring is lent.
 pub struct Lent<'a> {
@@ -32,24 +33,57 @@ pub fn factor(
     jacobian: &[f64],
     residuals: &[f64],
     lent: Lent,
-) -> (Result<(), u8>, State) {
+) -> (Result<Ranges, u8>, State) {
     let room = match check(m, n, jacobian, residuals, &lent) {
         Ok(room) => room,
         Err(number) => return (Err(number), EMPTY),
     };
-    let problem = doors::factor(m, n, &jacobian[..m * n], &residuals[..m]);
+    let (problem, norms) =
+        recorder::of(|| doors::factor(m, n, &jacobian[..m * n], &residuals[..m]));
     lent.bench[..room.bench()].fill(0.0);
     problem.keep_factored(&room, lent.store);
     if all_finite(&lent.store[..room.needed()]) {
         lent.order[..n].copy_from_slice(problem.order());
         let held = Held::Nothing;
-        return (Ok(()), State { m, n, held });
+        return (Ok(recorder::all(&norms)), State { m, n, held });
     }
     lent.store[..room.needed()].fill(0.0);
     for (place, entry) in lent.order[..n].iter_mut().enumerate() {
         *entry = place;
     }
     (Err(8), EMPTY)
+}
+
+/// What each norm of a factoring is of, told by its place and its length alone: first the n columns; then in each step j
+/// one of the pivot from row j on, which is of m - j entries, and after it those worked out anew, of one entry less. Of
+/// the norms of one length, step j's pivot thus comes last.
+fn measured(m: usize, n: usize, norms: &[Norm]) -> Vec<Measured> {
+    let (columns, later) = norms.split_at(n);
+    let mut measured: Vec<Measured> = columns.iter().map(|norm| of(Of::Column, norm)).collect();
+    for (place, norm) in later.iter().enumerate() {
+        let row = m - norm.length;
+        let last = later[place + 1..]
+            .iter()
+            .all(|next| next.length != norm.length);
+        let pivot = row < m.min(n) && last;
+        measured.push(of(if pivot { Of::Pivot(row) } else { Of::Anew }, norm));
+    }
+    measured
+}
+
+fn of(of: Of, norm: &Norm) -> Measured {
+    Measured {
+        of,
+        ranges: norm.ranges,
+    }
+}
+
+pub fn norms(m: usize, n: usize, jacobian: &[f64]) -> Option<Vec<Measured>> {
+    Room::of_sizes(m, n).ok()?;
+    let jacobian = jacobian.get(..m * n)?;
+    finite(jacobian).ok()?;
+    let (_, norms) = recorder::of(|| doors::factor(m, n, jacobian, &vec![0.0; m]));
+    Some(measured(m, n, &norms))
 }
 
 /// The tests of a call that takes a state and a store and nothing else to be tested.

@@ -1,8 +1,8 @@
 //! The leaves alone, as the shims and `utils.rs` have them.
 
 use crate::room::ROWS;
-use crate::{Shown, utils};
-use api::Leaves;
+use crate::{Shown, recorder, utils};
+use api::{Leaves, Ranges};
 use nalgebra::{Dim, Dyn, MatrixView, MatrixViewMut, U1};
 use num_traits::{Float, Signed};
 
@@ -74,11 +74,12 @@ impl Leaves for Shown {
         Ok(view(v).imax())
     }
 
-    fn enorm(&self, v: &[f64]) -> Result<f64, u8> {
+    fn enorm(&self, v: &[f64]) -> Result<(f64, Ranges), u8> {
         if v.len() > ROWS {
             return Err(2);
         }
-        Ok(utils::enorm(&view(v)))
+        let (norm, norms) = recorder::of(|| utils::enorm(&view(v)));
+        Ok((norm, recorder::all(&norms)))
     }
 
     fn solve_upper(&self, r: &[f64], apart: usize, n: usize, x: &mut [f64]) -> Result<(), u8> {

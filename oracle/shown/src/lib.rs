@@ -7,6 +7,7 @@ mod engine;
 mod factoring;
 mod leaves;
 pub mod published;
+mod recorder;
 mod room;
 mod scaling;
 mod searching;

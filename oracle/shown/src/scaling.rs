@@ -2,9 +2,10 @@
 
 use crate::factoring::unordered;
 use crate::qr::doors::vector;
+use crate::recorder;
 use crate::room::{Room, all_finite, finite, unless};
 use crate::update_diag::{Config, LM};
-use api::{Mode, Start, State};
+use api::{Mode, Ranges, Start, State};
 
 /// The lent numbers of a scaling call.
 pub struct Lent<'a> {
@@ -39,7 +40,7 @@ fn shown(
     store: &[f64],
     mode: Mode,
     lent: &Lent,
-) -> Result<LM<f64, nalgebra::Dyn>, u8> {
+) -> Result<(LM<f64, nalgebra::Dyn>, Ranges), u8> {
     let n = room.n;
     let x = if is_first(mode) {
         vector(&lent.x[..n])
@@ -59,8 +60,9 @@ fn shown(
         first_update: is_first(mode),
     };
     let mut problem = unordered(room, store);
-    match lm.update_diag(&mut problem) {
-        Ok(()) => Ok(lm),
+    let (done, norms) = recorder::of(|| lm.update_diag(&mut problem));
+    match done {
+        Ok(()) => Ok((lm, recorder::all(&norms))),
         Err(_) => Err(8),
     }
 }
@@ -83,10 +85,10 @@ pub fn update_diag(
     store: &mut [f64],
     mode: Mode,
     lent: Lent,
-) -> Result<Option<Start>, u8> {
+) -> Result<(Option<Start>, Ranges), u8> {
     let room = check(state, store, mode, &lent)?;
     room.clear_work(store);
-    let lm = shown(&room, store, mode, &lent)?;
+    let (lm, ranges) = shown(&room, store, mode, &lent)?;
     let answer = if is_first(mode) {
         Some(start(&lm)?)
     } else {
@@ -98,5 +100,5 @@ pub fn update_diag(
         }
         lent.diag[..room.n].copy_from_slice(lm.diag.as_slice());
     }
-    Ok(answer)
+    Ok((answer, ranges))
 }

@@ -1,9 +1,10 @@
 //! The search: the shown Rust and its traced copy, held to the same bits each time.
 
 use crate::qr::doors::{Problem, vector};
+use crate::recorder::{self, Norm};
 use crate::room::{Room, finite, unless};
-use crate::{Shown, trace, traced, trust_region};
-use api::{End, Found, Held, Run, State, Traced};
+use crate::{Shown, factoring, trace, traced, trust_region};
+use api::{End, Found, Held, Measured, Ranges, Run, State, Traced};
 
 /// What a search is asked.
 #[derive(Clone, Copy)]
@@ -18,6 +19,7 @@ struct Answer {
     step: Vec<f64>,
     lambda: f64,
     norm: f64,
+    ranges: Ranges,
     run: Run,
     problem: Problem,
 }
@@ -40,15 +42,29 @@ fn same(a: f64, b: f64) -> bool {
     a.to_bits() == b.to_bits() || a.is_nan() && b.is_nan()
 }
 
+/// Both work out the same norms, a refused search too, since neither stops where document 01 refuses. The trace has
+/// them all where the search is answered; where it is refused 8 it has those up to the number that refuses.
+fn assert_norms(original: &[Norm], copy: &[Norm], run: &Run) {
+    assert_eq!(original, copy);
+    let told: Vec<Ranges> = run.norms.iter().map(|norm| norm.ranges).collect();
+    let worked: Vec<Ranges> = original.iter().map(|norm| norm.ranges).collect();
+    assert!(worked.starts_with(&told));
+    assert!(matches!(run.end, End::Refused(_)) || told.len() == worked.len());
+}
+
 fn both(room: &Room, store: &[f64], asked: &Question) -> Answer {
     let open = || Problem::open(room, store, &asked.order[..room.n]);
     let (diag, radius, lambda) = (vector(&asked.diag[..room.n]), asked.radius, asked.lambda);
     let mut problem = open();
-    let plain =
-        trust_region::determine_lambda_and_parameter_update(&mut problem, &diag, radius, lambda);
-    let (copy, run) = trace::of(|| {
-        traced::determine_lambda_and_parameter_update(&mut open(), &diag, radius, lambda)
+    let (plain, norms) = recorder::of(|| {
+        trust_region::determine_lambda_and_parameter_update(&mut problem, &diag, radius, lambda)
     });
+    let ((copy, run), of_copy) = recorder::of(|| {
+        trace::of(|| {
+            traced::determine_lambda_and_parameter_update(&mut open(), &diag, radius, lambda)
+        })
+    });
+    assert_norms(&norms, &of_copy, &run);
     assert!(same(plain.lambda, copy.lambda) && same(plain.dp_norm, copy.dp_norm));
     assert!(
         plain
@@ -61,6 +77,7 @@ fn both(room: &Room, store: &[f64], asked: &Question) -> Answer {
         step: plain.step.as_slice().to_vec(),
         lambda: plain.lambda,
         norm: plain.dp_norm,
+        ranges: recorder::all(&norms),
         run,
         problem,
     }
@@ -72,7 +89,7 @@ pub fn search(
     store: &mut [f64],
     asked: Question,
     out: &mut [f64],
-) -> (Result<Found, u8>, State) {
+) -> (Result<(Found, Ranges), u8>, State) {
     let room = match check(state, store, &asked, out.len()) {
         Ok(room) => room,
         Err(number) => return (Err(number), state),
@@ -92,7 +109,7 @@ pub fn search(
         norm: answer.norm,
         trials: answer.run.trials.len(),
     };
-    (Ok(found), state)
+    (Ok((found, answer.ranges)), state)
 }
 
 impl Traced for Shown {
@@ -113,6 +130,10 @@ impl Traced for Shown {
         };
         let room = check(state, store, &asked, usize::MAX).ok()?;
         Some(both(&room, store, &asked).run)
+    }
+
+    fn norms(&self, m: usize, n: usize, jacobian: &[f64]) -> Option<Vec<Measured>> {
+        factoring::norms(m, n, jacobian)
     }
 }
 

@@ -88,12 +88,12 @@ pub fn work(bytes: &[u8]) -> Result<Printed, u8> {
     if sheet.second {
         let (x, mode) = (&sheet.places, Mode::FirstScaled);
         let (start, _) = Shown.update_diag(state, &mut store, mode, &mut diag, x, sheet.bound);
-        radius = start?.ok_or(8)?.radius;
+        radius = start?.0.ok_or(8)?.radius;
     }
     let mut step = vec![0.0; n];
     let lambda = sheet.lambda;
     let (found, state) = Shown.search(state, &mut store, &order, &diag, radius, lambda, &mut step);
-    let found = found?;
+    let (found, _) = found?;
     let determined = Shown.determined(state, &mut store).0?;
     Ok(Printed {
         radius: sheet.second.then_some(radius),

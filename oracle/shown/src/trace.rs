@@ -3,7 +3,8 @@
 //! The shown search never refuses. A number of document 01's list under refusal 8 that is not finite ends the record;
 //! what the search goes on to work out is not written down.
 
-use api::{End, Place, Run, Stop, Trial};
+use crate::recorder;
+use api::{End, Measured, Of, Place, Run, Stop, Trial};
 use core::cell::RefCell;
 use nalgebra::{Dim, OVector, Scalar};
 use num_traits::Float;
@@ -11,14 +12,19 @@ use num_traits::Float;
 struct Record {
     undamped_norm: f64,
     infinite_first_solve: bool,
+    /// There was a held solve for the lower bound, so that this has a norm.
+    first_solve: bool,
     trials: Vec<Trial>,
+    norms: Vec<Measured>,
     end: Option<End>,
 }
 
 const NOTHING: Record = Record {
     undamped_norm: 0.0,
     infinite_first_solve: false,
+    first_solve: false,
     trials: Vec::new(),
+    norms: Vec::new(),
     end: None,
 };
 
@@ -35,6 +41,7 @@ pub fn of<A>(search: impl FnOnce() -> A) -> (A, Run) {
         undamped_norm: record.undamped_norm,
         infinite_first_solve: record.infinite_first_solve,
         trials: record.trials,
+        norms: record.norms,
         end: record.end.expect("every search stops"),
     };
     (answer, run)
@@ -50,6 +57,12 @@ fn note(entry: impl FnOnce(&mut Record)) {
 
 fn note_trial(entry: impl FnOnce(&mut Trial)) {
     note(|record| entry(record.trials.last_mut().expect("a trial has begun")));
+}
+
+/// Writes down the norm that was just worked out.
+fn note_norm(of: Of) {
+    let ranges = recorder::last().ranges;
+    note(|record| record.norms.push(Measured { of, ranges }));
 }
 
 fn refuse_unless_finite<F: Float>(number: F, place: Place) {
@@ -68,18 +81,26 @@ pub fn stop(rule: Stop) {
 
 pub fn undamped_norm<F: Float>(norm: F) {
     note(|record| record.undamped_norm = norm.to_f64());
+    note_norm(Of::Undamped);
     refuse_unless_finite(norm, Place::UndampedNorm);
 }
 
 pub fn first_solve<F: Float + Scalar, N: Dim>(solution: &OVector<F, N>) {
-    note(|record| record.infinite_first_solve = infinite(solution));
+    note(|record| {
+        record.infinite_first_solve = infinite(solution);
+        record.first_solve = true;
+    });
 }
 
 pub fn lower_bound<F: Float>(bound: F) {
+    if RECORD.with_borrow(|record| record.first_solve) {
+        note_norm(Of::LowerBound);
+    }
     refuse_unless_finite(bound, Place::LowerBound);
 }
 
 pub fn gnorm<F: Float>(norm: F) {
+    note_norm(Of::Gnorm);
     refuse_unless_finite(norm, Place::Gnorm);
 }
 
@@ -101,6 +122,7 @@ pub fn trial<F: Float + Scalar, N: Dim>(lambda: F, lower: F, upper: F, damping: 
 
 pub fn trial_norm<F: Float>(norm: F) {
     note_trial(|trial| trial.norm = norm.to_f64());
+    note_norm(Of::Trial);
     refuse_unless_finite(norm, Place::TrialNorm);
 }
 
@@ -113,5 +135,6 @@ pub fn held_solve<F: Float + Scalar, N: Dim>(solution: &OVector<F, N>) {
 }
 
 pub fn correction<F: Float>(correction: F) {
+    note_norm(Of::Correction);
     refuse_unless_finite(correction, Place::Correction);
 }

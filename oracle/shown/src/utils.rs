@@ -1,5 +1,7 @@
 //! Document 01's leaf rules for what the shown Rust takes from `utils.rs`.
 
+use crate::recorder::{self, Norm};
+use api::Ranges;
 use nalgebra::{Dim, RealField, U1, Vector, convert, storage::Storage};
 use num_traits::Float;
 
@@ -59,6 +61,52 @@ impl<F: RealField + Float> Scaled<F> {
     }
 }
 
+/// Where an absolute value belongs. A zero, of either sign, adds nothing and counts as none of the three (02, #106).
+enum Range {
+    Zero,
+    Small,
+    Middle,
+    Large,
+}
+
+/// "Strictly between rdwarf and agiant"; "one <= rdwarf"; "all others, NaN too".
+fn range<F: RealField + Float>(v: F, agiant: F) -> Range {
+    let rdwarf: F = convert(RDWARF);
+    if v > rdwarf && v < agiant {
+        Range::Middle
+    } else if v <= rdwarf {
+        if v.is_zero() {
+            Range::Zero
+        } else {
+            Range::Small
+        }
+    } else {
+        Range::Large
+    }
+}
+
+/// "agiant = rgiant/length", by the norm's own length.
+fn agiant<F: RealField + Float>(length: usize) -> F {
+    let rgiant: F = convert(RGIANT);
+    rgiant / convert(length as f64)
+}
+
+/// Writes down the norm's ranges, by the leaf rule's limits whichever norm works the number out.
+fn record<F: RealField + Float>(entries: &[F]) {
+    let mut ranges = Ranges::NEITHER;
+    for x in entries {
+        match range(Float::abs(*x), agiant(entries.len())) {
+            Range::Zero | Range::Middle => {}
+            Range::Small => ranges.small = true,
+            Range::Large => ranges.large = true,
+        }
+    }
+    recorder::note(Norm {
+        length: entries.len(),
+        ranges,
+    });
+}
+
 /// The norm; `published` in its place while [`crate::published::in_place`] runs.
 pub(crate) fn enorm<F, N, VS>(v: &Vector<F, N, VS>) -> F
 where
@@ -66,22 +114,18 @@ where
     N: Dim,
     VS: Storage<F, N, U1>,
 {
+    record(v.entries());
     if crate::published::is_in_place() {
         return crate::published::enorm(v);
     }
-    let (rdwarf, rgiant): (F, F) = (convert(RDWARF), convert(RGIANT));
-    let agiant = rgiant / convert(v.nrows() as f64);
     let (mut large, mut s2, mut small) = (Scaled::none(), F::zero(), Scaled::none());
     for x in v.entries() {
-        let v = Float::abs(*x);
-        if v > rdwarf && v < agiant {
-            s2 += v * v;
-        } else if v <= rdwarf {
-            if !v.is_zero() {
-                small.add(v);
-            }
-        } else {
-            large.add(v);
+        let x = Float::abs(*x);
+        match range(x, agiant(v.nrows())) {
+            Range::Zero => {}
+            Range::Small => small.add(x),
+            Range::Middle => s2 += x * x,
+            Range::Large => large.add(x),
         }
     }
     finish(large, s2, small)

@@ -1,6 +1,6 @@
 //! Document 01's commissioning examples, and the runs it asks for beside them.
 
-use api::{Engine, Found, Held, Leaves, State};
+use api::{Engine, Found, Held, Leaves, Ranges, State};
 use shown::Shown;
 
 /// A factored problem with its lent room.
@@ -18,7 +18,7 @@ impl Site {
         let (answer, state) = Shown.factor(
             m, n, jacobian, residuals, &mut store, &mut order, &mut bench,
         );
-        assert_eq!(answer, Ok(()));
+        assert_eq!(answer, Ok(Ranges::NEITHER));
         assert!(bench.iter().all(|entry| entry.to_bits() == 0));
         Site {
             state,
@@ -27,7 +27,7 @@ impl Site {
         }
     }
 
-    fn search(&mut self, diag: &[f64], radius: f64) -> (Result<Found, u8>, Vec<f64>) {
+    fn search(&mut self, diag: &[f64], radius: f64) -> (Result<(Found, Ranges), u8>, Vec<f64>) {
         let mut step = vec![7.0; self.state.n];
         let (order, store) = (&self.order, &mut self.store);
         let (found, state) = Shown.search(self.state, store, order, diag, radius, 0.0, &mut step);
@@ -36,20 +36,22 @@ impl Site {
     }
 }
 
-fn found(lambda: f64, norm: f64, trials: usize) -> Result<Found, u8> {
-    Ok(Found {
+fn found(lambda: f64, norm: f64, trials: usize) -> Result<(Found, Ranges), u8> {
+    let found = Found {
         lambda,
         norm,
         trials,
-    })
+    };
+    Ok((found, Ranges::NEITHER))
 }
 
 #[test]
 fn a_to_d_leaves() {
     assert_eq!(Leaves::sqrt(&Shown, 0.390625), 0.625);
     assert_eq!(Leaves::sqrt(&Shown, f64::from_bits(1)), 2f64.powi(-537));
-    assert_eq!(Shown.enorm(&[3.0, 4.0]), Ok(5.0));
-    assert_eq!(Shown.enorm(&[]).map(f64::to_bits), Ok(0));
+    assert_eq!(Shown.enorm(&[3.0, 4.0]), Ok((5.0, Ranges::NEITHER)));
+    let empty = Shown.enorm(&[]).map(|(norm, ranges)| (norm.to_bits(), ranges));
+    assert_eq!(empty, Ok((0, Ranges::NEITHER)));
 }
 
 #[test]
@@ -70,7 +72,7 @@ fn f_g_and_k_searches() {
     );
     assert_eq!(one(6.0).search(&[1.0], 0.0), (Err(7), vec![7.0]));
     let (damped, _) = one(36.0).search(&[1.0], 10.0);
-    assert!(damped.is_ok_and(|found| found.lambda > 0.0 && found.trials > 0));
+    assert!(damped.is_ok_and(|(found, _)| found.lambda > 0.0 && found.trials > 0));
 }
 
 #[test]
@@ -129,7 +131,7 @@ fn rows_128_and_129() {
             .factor(m, 1, &jacobian, &jacobian, lent.0, lent.1, lent.2)
             .0
     };
-    assert_eq!(factor(128), Ok(()));
+    assert_eq!(factor(128), Ok(Ranges::NEITHER));
     assert_eq!(factor(129), Err(2));
     assert_eq!(Shown.enorm(&[1.0; 129]), Err(2));
 }

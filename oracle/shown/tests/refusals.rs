@@ -1,6 +1,6 @@
 //! Document 01's refusal numbers, by inputs that earn several of them: the first test in its order answers.
 
-use api::{EMPTY, Engine, Held, Leaves, Mode, State};
+use api::{EMPTY, Engine, Held, Leaves, Mode, Ranges, State};
 use shown::Shown;
 
 const NAN: f64 = f64::NAN;
@@ -77,7 +77,8 @@ fn factoring_hands_back_the_empty_state_and_reads_no_order() {
         (Err(8), EMPTY, zeroed, [0], bench)
     );
     let (answer, state, _, order, bench) = factor(1, &[3.0, NAN]);
-    assert_eq!((answer, order, bench), (Ok(()), [0], [0.0, 0.0, 7.0, 7.0]));
+    let answered = (Ok(Ranges::NEITHER), [0], [0.0, 0.0, 7.0, 7.0]);
+    assert_eq!((answer, order, bench), answered);
     assert_eq!(state.held, Held::Nothing);
 }
 
@@ -91,7 +92,7 @@ fn scaling_reads_only_what_its_mode_needs() {
             .0;
         assert_eq!(store[4].to_bits() == 0, !matches!(answer, Err(1..8)));
         (
-            answer.map(|start| start.map(|start| (start.xnorm, start.radius))),
+            answer.map(|(start, _)| start.map(|start| (start.xnorm, start.radius))),
             diag[0],
         )
     };

@@ -123,7 +123,7 @@ fn assert_answer(asked: &Question, run: &Run) {
     let last = run.trials.last();
     match (run.end, found) {
         (End::Refused(_), Err(8)) => (),
-        (End::Stopped(_), Ok(found)) => {
+        (End::Stopped(_), Ok((found, _))) => {
             assert_eq!(found.trials, run.trials.len());
             assert_eq!(found.lambda, last.map_or(0.0, |trial| trial.lambda));
             assert_eq!(

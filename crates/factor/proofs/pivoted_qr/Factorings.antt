@@ -7,6 +7,7 @@ use lib.ListN.{length}
 use lib.Ieee.{Float}
 use borrow.Author.Tests.{ne-eqb}
 use Rattle.leaves.specs.Reply.{refused}
+use Rattle.leaves.specs.declared.norm.Ranges.{Ranges}
 use Rattle.factor.specs.State.{empty}
 use Rattle.leaves.specs.Tests.{firstOf}
 use Rattle.factor.specs.inner.Worked.{outcome}
@@ -26,10 +27,10 @@ module _ (m n : ℕ) (jacobian residuals store : List Float) (order : List ℕ) 
   factoring-worked c e z h = h ∙ call-worked _ (λ k. factored (refused k) empty store order bench) _ (sym e ∙ z)
 
   -- finite, and not
-  pub factoring-answered : (c : ℕ) (b : Bool) (s : List Float) (o : List ℕ) (h : List Float) → c ≡ tests → c ≡ 0 → b ≡ true
-      → outcome b m n s o h ≡ factorWorked m n jacobian residuals store order bench → outcome true m n s o h ≡ factorCall m n jacobian residuals store order bench
-  factoring-answered c b s o h e z t w = factoring-worked c e z (ap (λ (x : Bool). outcome x m n s o h) (sym t) ∙ w)
+  pub factoring-answered : (c : ℕ) (b : Bool) (seen : Ranges) (s : List Float) (o : List ℕ) (h : List Float) → c ≡ tests → c ≡ 0 → b ≡ true
+      → outcome b seen m n s o h ≡ factorWorked m n jacobian residuals store order bench → outcome true seen m n s o h ≡ factorCall m n jacobian residuals store order bench
+  factoring-answered c b seen s o h e z t w = factoring-worked c e z (ap (λ (x : Bool). outcome x seen m n s o h) (sym t) ∙ w)
 
-  pub factoring-broken : (c : ℕ) (b : Bool) (s : List Float) (o : List ℕ) (h : List Float) → c ≡ tests → c ≡ 0 → b ≡ false
-      → outcome b m n s o h ≡ factorWorked m n jacobian residuals store order bench → outcome false m n s o h ≡ factorCall m n jacobian residuals store order bench
-  factoring-broken c b s o h e z t w = factoring-worked c e z (ap (λ (x : Bool). outcome x m n s o h) (sym t) ∙ w)
+  pub factoring-broken : (c : ℕ) (b : Bool) (seen : Ranges) (s : List Float) (o : List ℕ) (h : List Float) → c ≡ tests → c ≡ 0 → b ≡ false
+      → outcome b seen m n s o h ≡ factorWorked m n jacobian residuals store order bench → outcome false seen m n s o h ≡ factorCall m n jacobian residuals store order bench
+  factoring-broken c b seen s o h e z t w = factoring-worked c e z (ap (λ (x : Bool). outcome x seen m n s o h) (sym t) ∙ w)

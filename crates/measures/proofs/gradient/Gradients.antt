@@ -12,16 +12,16 @@ use borrow.Author.Tests.{not-true, not-false}
 use Rattle.leaves.specs.Reply.{answered, refused}
 use Rattle.leaves.specs.Number.{plusZero, absOf, maxOf, isFinite}
 use Rattle.leaves.specs.Vector.{dotOf, axpyAll}
-use Rattle.leaves.specs.Norm.{norm}
+use Rattle.leaves.specs.Norm.{norm, ranges}
 use Rattle.leaves.proofs.Folds.{front}
 use Rattle.leaves.proofs.Signs.{is-nan}
 use Rattle.leaves.proofs.Fronts.{front-old, map-at}
 use Rattle.leaves.proofs.Products.{divided-length}
-use Rattle.leaves.specs.Square.{uppersOf}
+use Rattle.leaves.specs.Square.{uppersOf, zeros}
 use Rattle.leaves.specs.Product.{dividedBy}
 use Rattle.factor.specs.Solve.{gather}
 use Rattle.factor.proofs.Solves.{gather-at, gather-length}
-use Rattle.measures.specs.Gradient.{measures, largest, combined, jxNorm}
+use Rattle.measures.specs.Gradient.{measures, largest, combined, jxNorm, jxRanges}
 use Rattle.leaves.proofs.Squares.{upper-at, upper-long, uppersOf-length}
 use Rattle.leaves.specs.inner.Squares.{Square}
 
@@ -168,7 +168,14 @@ pub combined-end : (w : List Float) (us : List (List Float)) (xs : List Float) (
 unfolding combined
 combined-end w us xs i h = rw (drop-of-length-le us {i = i} h)
 
-pub jx-is : (n : ℕ) (s xs w : List Float) {w₁ w₂ : List Float} → length w ≡ n → w₁ ≡ replicate (length w) plusZero → w₂ ≡ combined w₁ (uppersOf n s) xs
-    → norm w₂ ≡ jxNorm xs (uppersOf n s)
-unfolding jxNorm
-jx-is n s xs w h e f = rw (f, e, h, uppersOf-length n s, jxNorm)
+module _ (n : ℕ) (s xs w : List Float) {w₁ w₂ : List Float} (h : length w ≡ n) (e : w₁ ≡ replicate (length w) plusZero) (f : w₂ ≡ combined w₁ (uppersOf n s) xs) where
+  product : w₂ ≡ combined (zeros (length (uppersOf n s))) (uppersOf n s) xs
+  product = rw (f, e, h, uppersOf-length n s)
+
+  pub jx-is : norm w₂ ≡ jxNorm xs (uppersOf n s)
+  unfolding jxNorm
+  jx-is = ap norm product
+
+  pub jx-seen : ranges w₂ ≡ jxRanges xs (uppersOf n s)
+  unfolding jxRanges
+  jx-seen = ap ranges product

@@ -4,18 +4,18 @@ use mathlib.Core.Path.{_≡_, refl, sym, ap, _∙_}
 use mathlib.Core.Bool.{Bool, true, false, cond, true≢false}
 use mathlib.Core.List.{List, [], _∷_}
 use Prim.Native.Nat.{ℕ, zero, suc, _+_, _*_, _<_, _≤_, max, zero-le, suc-le-suc}
-use native.Mathlib.Nat.{le-of-suc-le-suc, mul-pos}
+use native.Mathlib.Nat.{le-of-suc-le-suc}
 use native.Mathlib.Numerals.{add-one}
 use native.Mathlib.Omega.{arith}
 use lib.IntN.{ℤ, pos}
 use lib.ListN.{length, getD, take, drop, drop-of-length-le}
 use lib.Seq.{drop-cons}
 use lib.Ieee.{Float, nan, inf, fin, binary64, up, down, mul, lt, eq, ofInt}
-use lib.Ieee.Fits.{up-pos}
-use borrow.Author.Tests.{le-ltb, ne-eqb}
+use borrow.Author.Tests.{le-ltb}
 use Rattle.leaves.specs.Number.{plusZero, absOf, epsmch}
 use Rattle.leaves.specs.Square.{diagonal}
 use Rattle.leaves.proofs.Normed.{abs-side, round-side, mul-side}
+use Rattle.leaves.proofs.Signs.{not-zero}
 use Rattle.leaves.proofs.root.Signs.{Side, no-number, endless, minus-zero, plain}
 use Rattle.factor.specs.Solve.{rank, rRank}
 use Rattle.measures.specs.Determined.{limitOf, leading, determinedOf}
@@ -91,12 +91,6 @@ not-above-zero s e no-number = refl
 not-above-zero s e endless = refl
 not-above-zero s e (minus-zero {e = d}) = le-ltb 0 (0 * up d * down e + 0 * up e * down d) (omega arith)
 not-above-zero s e (plain {m} {e = d}) = le-ltb (m * up d * down e) (0 * up e * down d) (omega arith)
-
-not-zero : (s : Bool) (m : ℕ) (e : ℤ) → eq (fin s (suc m) e) plusZero ≡ false
-unfolding eq
-not-zero s m e =
-    let p : 0 < suc m * up e * 1 = mul-pos (mul-pos (omega arith) (up-pos e)) (omega arith) in
-    rw (ne-eqb (suc m * up e * 1) (0 * down e) (λ (q : suc m * up e * 1 ≡ 0 * down e). omega (arith, p, q)))
 
 zero-fails : {x : Float} (d : Float) → Side x → eq d plusZero ≡ true → lt x (absOf d) ≡ false
 unfolding eq

@@ -12,7 +12,7 @@ use borrow.Author.Tests.{not-true, not-false}
 use Rattle.leaves.specs.Number.{plusZero, one, maxOf, isFinite}
 use Rattle.leaves.specs.Product.{productAll}
 use Rattle.leaves.specs.Tests.{allFinite}
-use Rattle.leaves.specs.Norm.{norm}
+use Rattle.leaves.specs.Norm.{norm, neither, ranges}
 use Rattle.leaves.specs.Reply.{Reply, answered, refused}
 use Rattle.measures.specs.Scaling.{firstScaling, laterScaling, startBy, usable}
 use Rattle.measures.specs.Rescale.{Scaled, first, later, orRefused, rescaled}
@@ -20,6 +20,7 @@ use Rattle.factor.specs.Outcome.{written}
 use Rattle.measures.specs.declared.scaling.Mode.{Mode}
 use Rattle.measures.specs.declared.scaling.Mode.the-variants as mode
 use Rattle.measures.specs.declared.scaling.Start.{Start}
+use Rattle.leaves.specs.declared.norm.Ranges.{Ranges}
 use Rattle.leaves.proofs.Fronts.{front-old, map-at}
 use Rattle.leaves.proofs.Folds.{front}
 
@@ -79,26 +80,39 @@ laid : (n : ℕ) (diag : List Float) {s t : Scaled} {l d : List Float} → s ≡
 laid n diag {t = t} {l = l} {d = d} es el en =
     ap (λ (a : Scaled). with a (l ++ drop n diag)) es ∙ ap (λ (z : List Float). with t (z ++ drop n diag)) el ∙ ap (λ (j : ℕ). with t (d ++ drop j diag)) (sym en)
 
+-- the first call's answer: xnorm is the norm of v
+abbrev firstOn : Float → List Float → Scaled
+firstOn bound v = first (startBy bound (norm v)) (ranges v)
+
+firsts : (bound : Float) (v : List Float) {t : Start} {seen : Ranges} → t ≡ startBy bound (norm v) → seen ≡ ranges v → first t seen ≡ firstOn bound v
+firsts bound v {seen = seen} et es = ap (λ (s : Start). first s seen) et ∙ ap (first (startBy bound (norm v))) es
+
 module _ (n : ℕ) (norms diag x : List Float) (bound : Float) {t : Start} {b : Bool} (et : t ≡ startBy bound (norm (take n x))) (eb : b ≡ usable t) where
   abbrev tested : b ≡ usable (startBy bound (norm (take n x)))
   tested = eb ∙ ap usable et
 
-  pub unscaled-given : b ≡ true → (answered (first t), diag) ≡ rescaled mode.FirstUnscaled n norms diag x bound
+  pub unscaled-given : {seen : Ranges} → seen ≡ ranges (take n x) → b ≡ true → (answered (first t seen), diag) ≡ rescaled mode.FirstUnscaled n norms diag x bound
   unfolding rescaled
-  unscaled-given h = ap (λ (s : Start). (answered (first s), diag)) et ∙ given _ (first (startBy bound (norm (take n x)))) diag diag (sym tested ∙ h)
+  unscaled-given es h = ap (λ (a : Scaled). with a diag) (firsts bound (take n x) et es) ∙ given _ (firstOn bound (take n x)) diag diag (sym tested ∙ h)
 
   pub unscaled-refused : b ≡ false → (refused 8, diag) ≡ rescaled mode.FirstUnscaled n norms diag x bound
   unfolding rescaled
-  unscaled-refused h = refusing _ (first (startBy bound (norm (take n x)))) diag diag (sym tested ∙ h)
+  unscaled-refused h = refusing _ (firstOn bound (take n x)) diag diag (sym tested ∙ h)
 
 -- the first scaled mode: d holds the new entries, t the start by them, a and b what the tests gave
 module _ (n : ℕ) (norms diag x : List Float) (bound : Float) {d : List Float} {t : Start} {a : Bool} (k : length norms ≡ n)
     (ed : d ≡ firstScaling norms) (et : t ≡ startBy bound (norm (productAll d (take n x)))) (ea : a ≡ allFinite d) where
+  abbrev products : List Float → List Float
+  products l = productAll l (take n x)
+
   abbrev start : Start
-  start = startBy bound (norm (productAll (firstScaling norms) (take n x)))
+  start = startBy bound (norm (products (firstScaling norms)))
+
+  abbrev answer : Scaled
+  answer = firstOn bound (products (firstScaling norms))
 
   starts : t ≡ start
-  starts = et ∙ ap (λ (l : List Float). startBy bound (norm (productAll l (take n x)))) ed
+  starts = et ∙ ap (λ (l : List Float). startBy bound (norm (products l))) ed
 
   entries : length (firstScaling norms) ≡ n
   entries = first-length norms ∙ k
@@ -108,20 +122,22 @@ module _ (n : ℕ) (norms diag x : List Float) (bound : Float) {d : List Float} 
 
   pub first-refused : not a ≡ true → (refused 8, diag) ≡ rescaled mode.FirstScaled n norms diag x bound
   unfolding rescaled
-  first-refused h = refusing _ (first start) (written (firstScaling norms) diag) diag (ap (λ (o : Bool). o && usable start) (sym all ∙ not-true _ h))
+  first-refused h = refusing _ answer (written (firstScaling norms) diag) diag (ap (λ (o : Bool). o && usable start) (sym all ∙ not-true _ h))
 
   both : {b : Bool} → not a ≡ false → b ≡ usable t → (allFinite (firstScaling norms) && usable start) ≡ b
   both h eb = ap (λ (o : Bool). o && usable start) (sym all ∙ not-false _ h) ∙ sym (eb ∙ ap usable starts)
 
   pub start-refused : {b : Bool} → not a ≡ false → b ≡ usable t → not b ≡ true → (refused 8, diag) ≡ rescaled mode.FirstScaled n norms diag x bound
   unfolding rescaled
-  start-refused h eb g = refusing _ (first start) (written (firstScaling norms) diag) diag (both h eb ∙ not-true _ g)
+  start-refused h eb g = refusing _ answer (written (firstScaling norms) diag) diag (both h eb ∙ not-true _ g)
 
-  pub first-given : {b : Bool} (l : List Float) → not a ≡ false → b ≡ usable t → not b ≡ false → l ≡ d
-      → (answered (first t), l ++ drop n diag) ≡ rescaled mode.FirstScaled n norms diag x bound
+  pub first-given : {b : Bool} {seen : Ranges} (l : List Float) → seen ≡ ranges (productAll d (take n x)) → not a ≡ false → b ≡ usable t → not b ≡ false → l ≡ d
+      → (answered (first t seen), l ++ drop n diag) ≡ rescaled mode.FirstScaled n norms diag x bound
   unfolding rescaled
-  first-given l h eb g el =
-      laid n diag (ap first starts) (el ∙ ed) entries ∙ given _ (first start) (written (firstScaling norms) diag) diag (both h eb ∙ not-false _ g)
+  first-given l es h eb g el =
+      let saw = es ∙ ap (λ (z : List Float). ranges (products z)) ed in
+      laid n diag (firsts bound (products (firstScaling norms)) starts saw) (el ∙ ed) entries
+      ∙ given _ answer (written (firstScaling norms) diag) diag (both h eb ∙ not-false _ g)
 
 -- later scaled mode: o the old entries, d the new ones
 module _ (n : ℕ) (norms diag : List Float) {o d : List Float} {a : Bool} (k : length norms ≡ n) (f : n ≤ length diag)
@@ -140,11 +156,12 @@ module _ (n : ℕ) (norms diag : List Float) {o d : List Float} {a : Bool} (k : 
 
   pub later-refused : not a ≡ true → (refused 8, diag) ≡ rescaled mode.LaterScaled n norms diag [] plusZero
   unfolding rescaled
-  later-refused h = refusing _ later (written news diag) diag (sym every ∙ not-true _ h)
+  later-refused h = refusing _ (later neither) (written news diag) diag (sym every ∙ not-true _ h)
 
-  pub later-given : (l : List Float) → not a ≡ false → l ≡ d → (answered later, l ++ drop n diag) ≡ rescaled mode.LaterScaled n norms diag [] plusZero
+  pub later-given : {seen : Ranges} (l : List Float) → seen ≡ neither → not a ≡ false → l ≡ d
+      → (answered (later seen), l ++ drop n diag) ≡ rescaled mode.LaterScaled n norms diag [] plusZero
   unfolding rescaled
-  later-given l h el = laid n diag refl (el ∙ is) long ∙ given _ later (written news diag) diag (sym every ∙ not-false _ h)
+  later-given l es h el = laid n diag (ap later es) (el ∙ is) long ∙ given _ (later neither) (written news diag) diag (sym every ∙ not-false _ h)
 
 -- ---- what a mode does not read
 beside : (ok : Bool) (a : Scaled) (diag : List Float) → (orRefused ok a [] [] .0, diag) ≡ orRefused ok a diag diag
@@ -157,12 +174,12 @@ module _ (n : ℕ) (norms diag x : List Float) (bound : Float) {md : Mode} where
 
   pub unscaled-all : (r : Reply Scaled) → md ≡ mode.FirstUnscaled → r ≡ rescaled mode.FirstUnscaled n [] [] x bound .0 → (r, diag) ≡ rescaled md n norms diag x bound
   unfolding rescaled
-  unscaled-all r e h = rw (e, h) (beside (usable (startBy bound (norm (take n x)))) (first (startBy bound (norm (take n x)))) diag)
+  unscaled-all r e h = rw (e, h) (beside (usable (startBy bound (norm (take n x)))) (firstOn bound (take n x)) diag)
 
   pub later-all : {r : Reply Scaled × List Float} → md ≡ mode.LaterScaled → r ≡ rescaled mode.LaterScaled n norms diag [] plusZero → r ≡ rescaled md n norms diag x bound
   unfolding rescaled
   later-all e h = rw e h
 
-  pub kept-all : md ≡ mode.LaterUnscaled → (answered later, diag) ≡ rescaled md n norms diag x bound
+  pub kept-all : {seen : Ranges} → seen ≡ neither → md ≡ mode.LaterUnscaled → (answered (later seen), diag) ≡ rescaled md n norms diag x bound
   unfolding rescaled
-  kept-all e = rw e
+  kept-all es e = rw (es, e)

@@ -1,5 +1,5 @@
 -- Steps of the factoring on a bench by columns. Assumes nothing.
-use mathlib.Core.Path.{_≡_, refl, ap, _∙_}
+use mathlib.Core.Path.{_≡_, refl, sym, ap, _∙_}
 use mathlib.Core.Bool.{Bool, true, false, cond}
 use mathlib.Core.List.{List, [], _∷_}
 use Prim.Native.Nat.{ℕ, zero, suc, _<_}
@@ -9,9 +9,11 @@ use lib.ListN.{length, getD, take, drop, set}
 use lib.Seq.{getD-take, getD-set-same, getD-set-other, take-set-lt, set-getD}
 use lib.Ieee.{Float, nan, binary64, div, neg, eq}
 use Rattle.leaves.specs.Number.{isNegative, plusZero}
-use Rattle.leaves.specs.Norm.{norm}
-use Rattle.reduce.specs.Reduction.{reduction, reflectFrom, shrunk, renewed, later, signed}
-use Rattle.reduce.specs.inner.Bench.{divided, renewedAt, stale}
+use Rattle.leaves.specs.Norm.{norm, either, ranges, rangesOf}
+use Rattle.leaves.specs.declared.norm.Ranges.{Ranges}
+use Rattle.leaves.proofs.Seen.{either-none, rangesOf-one}
+use Rattle.reduce.specs.Reduction.{reduction, reflectFrom, shrunk, renewed, later, signed, remeasured, measuredLater}
+use Rattle.reduce.specs.inner.Bench.{divided, renewedAt, remeasuredAt, stale}
 
 pub divided-length : (t : Float) (c : List Float) → length (divided t c) ≡ length c
 divided-length t [] = refl
@@ -46,7 +48,37 @@ module _ (j k : ℕ) (c d w : List Float) where
       let f : s ≡ shrunk (getD d k nan) (getD c j nan) = es ∙ ap (shrunk (getD d k nan)) ex in
       rw (f, h, rw f at t, renewed) (rw (set-getD w k nan))
 
+-- ---- and what is measured for it
+module _ (j k : ℕ) (c d w : List Float) (seen : Ranges) where
+  pub remeasured-zero : eq (getD d k nan) plusZero ≡ true → seen ≡ either seen (rangesOf (remeasuredAt j k c d w))
+  unfolding remeasured rangesOf
+  remeasured-zero h = sym (rw (h, remeasured) (either-none seen))
+
+  pub remeasured-anew : (more : Ranges) (s x : Float) → eq (getD d k nan) plusZero ≡ false → x ≡ getD c j nan → s ≡ shrunk (getD d k nan) x → stale s (getD w k nan) ≡ true
+      → more ≡ ranges (drop (suc j) c) → either seen more ≡ either seen (rangesOf (remeasuredAt j k c d w))
+  unfolding remeasured
+  remeasured-anew more s x h ex es t em =
+      let f : s ≡ shrunk (getD d k nan) (getD c j nan) = es ∙ ap (shrunk (getD d k nan)) ex in
+      rw (h, rw f at t, remeasured) (ap (either seen) (em ∙ sym (rangesOf-one (drop (suc j) c))))
+
+  pub remeasured-less : (s x : Float) → eq (getD d k nan) plusZero ≡ false → x ≡ getD c j nan → s ≡ shrunk (getD d k nan) x → stale s (getD w k nan) ≡ false
+      → seen ≡ either seen (rangesOf (remeasuredAt j k c d w))
+  unfolding remeasured rangesOf
+  remeasured-less s x h ex es t =
+      let f : s ≡ shrunk (getD d k nan) (getD c j nan) = es ∙ ap (shrunk (getD d k nan)) ex in
+      sym (rw (h, rw f at t, remeasured) (either-none seen))
+
 -- ---- a later column
+pub later-measured : (n j k : ℕ) (axis : List Float) (g g′ : List (List Float)) (d w : List Float) (o : List ℕ) (seen : Ranges) {seen′ : Ranges} → k < n → length g ≡ suc n
+    → g′ ≡ set g k (reflectFrom j axis (getD g k [])) → seen′ ≡ either seen (rangesOf (remeasuredAt j k (getD g′ k []) d w))
+    → seen′ ≡ either seen (rangesOf (measuredLater j axis k (reduction (take n g) d w o (getD g n []))))
+unfolding measuredLater
+later-measured n j k axis g g′ d w o seen hk hl e p =
+    let c : List Float = reflectFrom j axis (getD g k []) in
+    let same : getD g′ k [] ≡ c = rw e (getD-set-same g k c [] (omega arith)) in
+    let there : c ≡ reflectFrom j axis (getD (take n g) k []) = ap (reflectFrom j axis) (sym (getD-take n g k [] hk)) in
+    p ∙ ap (λ (x : List Float). either seen (rangesOf (remeasuredAt j k x d w))) (same ∙ there)
+
 pub later-law : (n j k : ℕ) (axis : List Float) (g g′ : List (List Float)) (d w d′ w′ : List Float) (o : List ℕ) → k < n → length g ≡ suc n
     → g′ ≡ set g k (reflectFrom j axis (getD g k [])) → (d′, w′) ≡ renewedAt j k (getD g′ k []) d w
     → reduction (take n g′) d′ w′ o (getD g′ n []) ≡ later j axis k (reduction (take n g) d w o (getD g n []))

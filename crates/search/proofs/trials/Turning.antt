@@ -1,5 +1,5 @@
 -- A turn of the trials: what the steps of it, each as its contract says, are of the problem that the search was asked. Assumes nothing.
-use mathlib.Core.Path.{_≡_, ap, _∙_}
+use mathlib.Core.Path.{_≡_, sym, ap, _∙_}
 use mathlib.Core.List.{List}
 use Prim.Native.Nat.{ℕ}
 use native.Mathlib.Omega.{arith}
@@ -7,7 +7,8 @@ use lib.ListN.{length, take}
 use lib.Seq.{take-all}
 use lib.Ieee.{Float}
 use Rattle.leaves.specs.Number.{plusZero}
-use Rattle.leaves.specs.Norm.{norm}
+use Rattle.leaves.specs.Norm.{norm, ranges}
+use Rattle.leaves.specs.declared.norm.Ranges.{Ranges}
 use Rattle.leaves.specs.Product.{productAll}
 use Rattle.factor.specs.Room.{Room, load, lay, leaving, emptied}
 use Rattle.factor.specs.Solve.{gather}
@@ -17,8 +18,10 @@ use Rattle.factor.specs.declared.state.State.{State}
 use Rattle.factor.specs.declared.state.Held.the-variants as held
 use Rattle.factor.specs.PivotOrder.{lowered}
 use Rattle.search.specs.Problem.{Problem, placed, dampedRows, dampedStep, scaledStep, direction, dampedSlope, newton}
+use Rattle.search.specs.Measured.{heldByL}
 use Rattle.search.specs.Search.{problemOf}
 use Rattle.search.specs.inner.Read.{Ready, turnedBy}
+use Rattle.search.proofs.Seeing.{damped-slope-measured}
 use Rattle.search.proofs.Workings.{shaped}
 use Rattle.search.proofs.trials.Lowering.{lowered-emptied, lowered-loaded, rows-fit}
 
@@ -62,14 +65,22 @@ module _ (st : State) (store : List Float) (order : List ℕ) (e : Ready st stor
     pub damped-kept : emptied (load (st .n) s′) ≡ emptied room₀
     damped-kept = ap emptied left-loaded ∙ lowered-emptied (st .n) (dampedRows here lambda) room (shaped st store order e) (rows-fit st store order e diag lambda plusZero) ∙ kept
 
-    -- the correction, by the scaled step v of the step p
-    pub correction-asked : (fp nrm : Float) (p v : List Float) {c : Float} → nrm ≡ norm v → v ≡ productAll p (take (st .n) diag)
-        → c ≡ newton fp radius (norm (heldSolved held.Damped (gather (take (st .n) order) (turnedBy nrm v diag)) (load (st .n) s′)))
-        → c ≡ newton fp radius (dampedSlope asked lambda p)
-    unfolding dampedSlope direction heldSolved lowered
-    correction-asked fp nrm p v {c} a b k =
+    -- the held solve, by the scaled step v of the step p
+    held-asked : (nrm : Float) (p v : List Float) → nrm ≡ norm v → v ≡ productAll p (take (st .n) diag)
+        → heldSolved held.Damped (gather (take (st .n) order) (turnedBy nrm v diag)) (load (st .n) s′) ≡ heldByL asked lambda p
+    unfolding heldByL direction heldSolved lowered
+    held-asked nrm p v a b =
         let f : forwardLower (load (st .n) s′ .ldiag) (load (st .n) s′ .below) ≡ forwardLower (heads (dampedRows asked lambda .0)) (tails (dampedRows asked lambda .0)) =
         rw (left-loaded, rows-same) in
         let d : turnedBy nrm v diag ≡ turnedBy (norm (productAll p (take (st .n) diag))) (productAll p (take (st .n) diag)) (take (st .n) diag) =
         rw (a, b, take-all (st .n) diag (omega arith)) in
-        k ∙ rw (f, d)
+        rw (f, d)
+
+    -- the correction, and what its norm saw
+    pub correction-asked : (fp nrm : Float) (p v : List Float) {c : Float} {seen : Ranges} → nrm ≡ norm v → v ≡ productAll p (take (st .n) diag)
+        → c ≡ newton fp radius (norm (heldSolved held.Damped (gather (take (st .n) order) (turnedBy nrm v diag)) (load (st .n) s′)))
+        → seen ≡ ranges (heldSolved held.Damped (gather (take (st .n) order) (turnedBy nrm v diag)) (load (st .n) s′))
+        → (c ≡ newton fp radius (dampedSlope asked lambda p)) × (seen ≡ ranges (heldByL asked lambda p))
+    correction-asked fp nrm p v a b k f =
+        let u = held-asked nrm p v a b in
+        (k ∙ ap (λ (x : List Float). newton fp radius (norm x)) u ∙ ap (newton fp radius) (sym (damped-slope-measured asked lambda p)), f ∙ ap ranges u)

@@ -3,6 +3,7 @@ use Rattle.factor.specs.inner.Opened.{opened as factor}
 use Rattle.search.specs.Problem.{placed, undampedStep, dampedRows, dampedStep, direction, undampedSlope, dampedSlope, newton}
 use Rattle.search.specs.Bounds.{tenth, thousandth, band, lowerBound, quotients, gnorm, upperBound, firstLambda, raised}
 use Rattle.search.specs.Run.{next, trialOf, isWithin, isFalling, trialsFrom, runOf}
+use Rattle.search.specs.Measured.{heldByR, heldByL, gradientBy, measuredLower, measuredBounds, unlessStopped, measuredTrials, measuredBy}
 use Rattle.search.specs.Search.{concluded, answerOf, searchCall}
 use Rattle.search.specs.Ending.{ending}
 use Rattle.search.specs.Enorm.{one, rdwarf, rgiant, largeComponent, smallComponent, component, components, calculated, minpackEnorm}
@@ -11,5 +12,5 @@ use Rattle.search.specs.Lmpar.{p1, p001, lessColumn, backward, gaussNewt
 use Rattle.search.specs.inner.Counting.{trialCount}
 
 unfoldable pub opened : Unit {0}
-unfolding factor placed undampedStep dampedRows dampedStep direction undampedSlope dampedSlope newton tenth thousandth band lowerBound quotients gnorm upperBound firstLambda raised next trialOf isWithin isFalling trialsFrom runOf concluded answerOf searchCall ending trialCount one rdwarf rgiant largeComponent smallComponent component components calculated minpackEnorm do10 do20 byCotan byTan turnOf stays passes do30 do60 turnedAt do80 dampedAt restoredAt do100 do110 nsingFrom do120 do140 do160 qrsolv p1 p001 lessColumn backward gaussNewton scaled newtonSide forward do190 do210 newtonStep parlOf gradient paruOf parOf evaluated accepted parcOf improved iterations lmpar
+unfolding factor placed undampedStep dampedRows dampedStep direction undampedSlope dampedSlope newton tenth thousandth band lowerBound quotients gnorm upperBound firstLambda raised next trialOf isWithin isFalling trialsFrom runOf heldByR heldByL gradientBy measuredLower measuredBounds unlessStopped measuredTrials measuredBy concluded answerOf searchCall ending trialCount one rdwarf rgiant largeComponent smallComponent component components calculated minpackEnorm do10 do20 byCotan byTan turnOf stays passes do30 do60 turnedAt do80 dampedAt restoredAt do100 do110 nsingFrom do120 do140 do160 qrsolv p1 p001 lessColumn backward gaussNewton scaled newtonSide forward do190 do210 newtonStep parlOf gradient paruOf parOf evaluated accepted parcOf improved iterations lmpar
 opened = tt

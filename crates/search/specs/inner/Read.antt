@@ -8,6 +8,7 @@ use Rattle.leaves.specs.Reply.{Reply, answered, refused}
 use Rattle.leaves.specs.Number.{plusZero}
 use Rattle.leaves.specs.Product.{productAll, dividedBy}
 use Rattle.leaves.specs.Tests.{firstOf}
+use Rattle.leaves.specs.declared.norm.Ranges.{Ranges}
 use Rattle.factor.specs.Tests.{solveTests}
 use Rattle.factor.specs.declared.state.State.{State}
 use Rattle.search.specs.Problem.{Problem, scaledNorm}
@@ -21,8 +22,13 @@ use Rattle.search.specs.declared.trust_region.Found.the-variants as foun
 
 -- and with the step beside it
 abbrev pub withStep : Found → List Float → Reply Answer
-withStep (found.Answer a) step = answered (a, step)
+withStep (found.Answer a seen) step = answered (a, step)
 withStep (found.Refused k) step = refused k
+
+-- what an answer has seen; a refusal carries no flags
+abbrev pub Saw : Found → Ranges → Type 0
+Saw (found.Answer a seen) all = seen ≡ all
+Saw (found.Refused k) all = Unit {0}
 
 -- A run that makes a trial is not read before that trial: what stands for an answer till then does not matter.
 abbrev pub unanswered : Answer

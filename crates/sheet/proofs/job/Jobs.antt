@@ -10,9 +10,10 @@ use borrow.Rule.Slice.PartAt.{part-to-end}
 use lib.Dec.{eqb, ltb}
 use lib.ListN.{length, take, drop, getD, replicate}
 use lib.Ieee.{Float, nan}
-use Rattle.leaves.specs.Reply.{refused, doneOf}
-use Rattle.leaves.specs.declared.reply.Done.{Done}
-use Rattle.leaves.specs.declared.reply.Done.the-variants as done
+use Rattle.leaves.specs.declared.norm.Ranges.{Ranges}
+use Rattle.leaves.specs.Reply.{refused, rangedOf}
+use Rattle.leaves.specs.declared.reply.Ranged.{Ranged}
+use Rattle.leaves.specs.declared.reply.Ranged.the-variants as ranged
 use Rattle.leaves.specs.Tests.{outside, firstOf}
 use Rattle.leaves.specs.Square.{zeros}
 use Rattle.factor.specs.Factoring.{Factored, factored, factorCall}
@@ -45,16 +46,16 @@ module _ (h : Head) (xs store : List Float) (order : List ℕ) (bench step : Lis
   abbrev a : ℕ
   a = h .m * h .n
 
-  module _ {d : Done} {q : State} {s b : List Float} {w : List ℕ} (f : factored (doneOf d) q s w b ≡ factorCall (h .m) (h .n) (take a xs) (take (a + h .m - a) (drop a xs)) store order bench) where
-    by : (x : Done) → d ≡ x → byFactoring (jobOf h xs .task) (doneOf x) q w s step ≡ workedIn (jobOf h xs) store order bench step
+  module _ {d : Ranged} {q : State} {s b : List Float} {w : List ℕ} (f : factored (rangedOf d) q s w b ≡ factorCall (h .m) (h .n) (take a xs) (take (a + h .m - a) (drop a xs)) store order bench) where
+    by : (x : Ranged) → d ≡ x → byFactoring (jobOf h xs .task) (rangedOf x) q w s step ≡ workedIn (jobOf h xs) store order bench step
     unfolding workedIn jobOf
     by x p =
         let z : a + h .m - a ≡ h .m = omega arith in
-        ap (λ (y : Done). byFactoring (jobOf h xs .task) (doneOf y) q w s step) (sym p)
+        ap (λ (y : Ranged). byFactoring (jobOf h xs .task) (rangedOf y) q w s step) (sym p)
         ∙ ap (λ (y : Factored). byFactoring (jobOf h xs .task) (y .reply) (y .state) (y .order) (y .store) step)
         (f ∙ ap (λ (k : ℕ). factorCall (h .m) (h .n) (take a xs) (take k (drop a xs)) store order bench) z)
 
-    pub work-on : d ≡ done.Written → {t : Finished Fit} → t ≡ taskFrom (taskOf (h .call) (h .n) (take (length xs - (a + h .m)) (drop (a + h .m) xs))) q w s step
+    pub work-on : {f : Ranges} → d ≡ ranged.Seen f → {t : Finished Fit} → t ≡ taskFrom (taskOf (h .call) (h .n) (take (length xs - (a + h .m)) (drop (a + h .m) xs))) q w s step
         → t ≡ workedIn (jobOf h xs) store order bench step
     work-on p g =
         g
@@ -62,7 +63,7 @@ module _ (h : Head) (xs store : List Float) (order : List ℕ) (bench step : Lis
         ∙ ap (λ (u : Task). taskFrom u q w s step) (task-is h xs e o)
         ∙ by _ p
 
-    pub work-refused : {k : ℕ} → d ≡ done.Refused k → finished (refused k) step ≡ workedIn (jobOf h xs) store order bench step
+    pub work-refused : {k : ℕ} → d ≡ ranged.Refused k → finished (refused k) step ≡ workedIn (jobOf h xs) store order bench step
     work-refused p = by _ p
 
 pub in-rooms : (j : Job) (step : List Float) {s b : List Float} {w : List ℕ} → s ≡ zeros 320 → w ≡ replicate 16 0 → b ≡ zeros 2176 → workedIn j s w b step ≡ worked j step

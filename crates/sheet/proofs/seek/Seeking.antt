@@ -18,8 +18,8 @@ use Rattle.measures.specs.declared.scaling.Start.{Start}
 use Rattle.measures.specs.declared.scaling.Scaling.{Scaling}
 use Rattle.measures.specs.declared.scaling.Scaling.the-variants as scaling
 use Rattle.measures.specs.declared.scaling.Mode.the-variants as mode
-use Rattle.search.specs.Search.{searchCall}
-use Rattle.search.specs.declared.LMParameter.{LMParameter}
+use Rattle.search.specs.Search.{Flagged, searchCall}
+use Rattle.leaves.specs.declared.norm.Ranges.{Ranges}
 use Rattle.search.specs.declared.trust_region.Found.{Found}
 use Rattle.sheet.specs.Fit.{Fit, started, Finished, finished, mapped, bySearch, byDetermined, soughtFrom, byScaling, startedFrom}
 use Rattle.sheet.specs.declared.answer.Fitted.{Fitted}
@@ -28,14 +28,14 @@ use Rattle.search.specs.Answers.{foundOf}
 use Rattle.sheet.specs.inner.Handed.{soughtOf}
 
 -- ---- a search
-pub search-told : (n d : ℕ) (a : Found) {f : Found} {q : State} {store step : List Float} (s : Ended LMParameter) → ended (foundOf f) q store step ≡ s → f ≡ a
+pub search-told : (n d : ℕ) (a : Found) {f : Found} {q : State} {store step : List Float} (s : Ended Flagged) → ended (foundOf f) q store step ≡ s → f ≡ a
     → bySearch n d (foundOf a) step ≡ bySearch n d (s .reply) (s .out)
 search-told n d a {step = step} s e p =
-    ap (λ (x : Found). bySearch n d (foundOf x) step) (sym p) ∙ ap (λ (x : Ended LMParameter). bySearch n d (x .reply) (x .out)) e
+    ap (λ (x : Found). bySearch n d (foundOf x) step) (sym p) ∙ ap (λ (x : Ended Flagged). bySearch n d (x .reply) (x .out)) e
 
 -- ---- determined, then a search
 module _ (st : State) (order : List ℕ) (diag : List Float) (radius lambda : Float) (store step : List Float) where
-  abbrev pub after : List Float → Ended LMParameter
+  abbrev pub after : List Float → Ended Flagged
   after s = searchCall st order diag radius lambda s step
 
   module _ {a : Place} {q : State} {left : List Float} (e : calls.told (placeOf a) q left ≡ determinedCall st store) where
@@ -64,11 +64,11 @@ module _ (st : State) (order : List ℕ) (x : List Float) (bound : Float) (store
         ap (λ (u : Scaling). byScaling st order (scalingOf u) diag left step) (sym p)
         ∙ ap (λ (u : Ended Scaled). byScaling st order (u .reply) (u .out) (u .store) step) (e ∙ ap (λ (o : List Float). scalingCall st mode.FirstScaled o x bound store) z)
 
-    pub started-on : {t : Start} → a ≡ scaling.First t → (b : Sought) {now : List Float} → finished (soughtOf b) now ≡ soughtFrom st order diag (t .radius) plusZero left step
+    pub started-on : {t : Start} {f : Ranges} → a ≡ scaling.First t f → (b : Sought) {now : List Float} → finished (soughtOf b) now ≡ soughtFrom st order diag (t .radius) plusZero left step
         → {r : Reply Fit} → r ≡ mapped (started (t .radius)) (soughtOf b) → finished r now ≡ startedFrom st order x bound store step
     started-on {t = t} p b h k = mapped-told (started (t .radius)) b _ h k ∙ scaled _ p
 
-    pub started-later : a ≡ scaling.Later → finished (refused 8) step ≡ startedFrom st order x bound store step
+    pub started-later : {f : Ranges} → a ≡ scaling.Later f → finished (refused 8) step ≡ startedFrom st order x bound store step
     started-later p = scaled _ p
 
     pub started-refused : {k : ℕ} → a ≡ scaling.Refused k → finished (refused k) step ≡ startedFrom st order x bound store step

@@ -96,11 +96,19 @@ pub fn upper(m: usize, n: usize, a: &[f64], apart: usize, diagonal: &[f64]) -> V
 }
 
 fn enorm(v: &[f64]) -> f64 {
-    PLAIN.enorm(v).expect("at most 128 rows")
+    PLAIN.enorm(v).expect("at most 128 rows").0
 }
 
 fn dot(a: &[f64], b: &[f64]) -> f64 {
     PLAIN.dot(a, b).expect("of one length")
+}
+
+/// The vectors whose norms a factoring works out, in their order; and those rests of later columns whose norms it does not
+/// work out anew (02, #106: these count for nothing).
+#[derive(Clone, Debug, Default)]
+pub struct Vectors {
+    pub worked: Vec<Vec<f64>>,
+    pub kept: Vec<Vec<f64>>,
 }
 
 struct Working<'a> {
@@ -111,6 +119,7 @@ struct Working<'a> {
     r_diag: Vec<f64>,
     work: Vec<f64>,
     order: Vec<usize>,
+    vectors: Vectors,
 }
 
 impl Working<'_> {
@@ -131,6 +140,7 @@ impl Working<'_> {
     fn reduce(&mut self, j: usize) -> bool {
         let axis = &mut self.a[j * self.m + j..(j + 1) * self.m];
         let mut norm = enorm(axis);
+        self.vectors.worked.push(axis.to_vec());
         if norm == 0.0 {
             self.r_diag[j] = if self.reading.zero { -0.0 } else { 0.0 };
             return false;
@@ -151,14 +161,18 @@ impl Working<'_> {
         let factor = -(dot(column, axis) / axis[0]);
         PLAIN.axpy(factor, axis, column).expect("of one length");
         let (r_diag, work) = (&mut self.r_diag[k], &mut self.work[k]);
+        let rest = column[1..].to_vec();
         if *r_diag == 0.0 {
-            return;
+            return self.vectors.kept.push(rest);
         }
         let lost = PLAIN.square(column[0] / *r_diag);
         *r_diag *= PLAIN.sqrt(PLAIN.max(1.0 - lost, 0.0));
         if 0.05 * PLAIN.square(*r_diag / *work) <= self.reading.epsmch() {
-            *r_diag = enorm(&column[1..]);
+            *r_diag = enorm(&rest);
             *work = *r_diag;
+            self.vectors.worked.push(rest);
+        } else {
+            self.vectors.kept.push(rest);
         }
     }
 }
@@ -179,6 +193,37 @@ fn transformed(m: usize, n: usize, a: &[f64], residuals: &[f64]) -> Vec<f64> {
     b
 }
 
+/// The factoring of `a`, in place, by a reading.
+fn work<'a>(reading: Reading, m: usize, n: usize, a: &'a mut [f64]) -> (Working<'a>, Vec<f64>) {
+    let norms: Vec<f64> = a.chunks(m).map(enorm).collect();
+    let worked = a.chunks(m).map(<[f64]>::to_vec).collect();
+    let mut w = Working {
+        reading,
+        m,
+        n,
+        a,
+        r_diag: norms.clone(),
+        work: norms.clone(),
+        order: (0..n).collect(),
+        vectors: Vectors {
+            worked,
+            kept: Vec::new(),
+        },
+    };
+    for j in 0..m.min(n) {
+        w.pivot(j);
+        if w.reduce(j) {
+            (j + 1..w.n).for_each(|k| w.reflect(j, k));
+        }
+    }
+    (w, norms)
+}
+
+pub fn vectors(m: usize, n: usize, jacobian: &[f64]) -> Vectors {
+    let mut a = jacobian.to_vec();
+    work(DOCUMENT_01, m, n, &mut a).0.vectors
+}
+
 /// The factoring by a reading, and the transformed residuals.
 pub fn factor(
     reading: Reading,
@@ -188,22 +233,7 @@ pub fn factor(
     residuals: &[f64],
 ) -> (Factors, Vec<f64>) {
     let mut a = jacobian.to_vec();
-    let norms: Vec<f64> = a.chunks(m).map(enorm).collect();
-    let mut w = Working {
-        reading,
-        m,
-        n,
-        a: &mut a,
-        r_diag: norms.clone(),
-        work: norms.clone(),
-        order: (0..n).collect(),
-    };
-    for j in 0..m.min(n) {
-        w.pivot(j);
-        if w.reduce(j) {
-            (j + 1..w.n).for_each(|k| w.reflect(j, k));
-        }
-    }
+    let (w, norms) = work(reading, m, n, &mut a);
     let (r_diag, order) = (w.r_diag, w.order);
     let factors = Factors {
         r: upper(m, n, &a, m, &r_diag),

@@ -5,6 +5,7 @@ use native.Mathlib.Omega.{arith}
 use borrow.Author.Needs.{needs}
 use Rattle.leaves.specs.Square.{zeros}
 use Rattle.leaves.specs.inner.Patch.{patch}
+use Rattle.factor.specs.inner.Worked.{seenIn}
 use Rattle.leaves.proofs.Overs.{lent-fits, lent-long}
 use Rattle.reduce.proofs.Begins.{kept-bench}
 use Rattle.reduce.proofs.Lent.{front-in, front-again, front-long}
@@ -75,6 +76,9 @@ lay-store-requires c κs =
 clear-long-requires : tie.Need-clear-long-requires
 clear-long-requires c κs = search needs
 
+seen-of-requires : tie.Need-seen-of-requires
+seen-of-requires c κs = search needs
+
 same-length : tie.Need-same-length
 same-length c = search needs
 
@@ -86,11 +90,11 @@ same-length-3 c = search needs
 
 returns : tie.Need-returns
 returns c =
-    let g = c .before .before .before .before .before .before .before .before .before .before .before .before .before .before .before .before .before .before .before .before .before .before .before .before .before .before .before .before .args in
-    let p = c .before .before .before .before .before .before .before .before .before .before .before .before .before .before .before .before .before .before .before .before .before .before .before .before .before .before .before .before .pre in
-    let r = c .before .before .before .before .before .before .before .before .before .before .before .before .before .before .before .before .before .before .before .before .before .before .room16 in
-    let x = c .before .before .before .before .before .before .before .before .before .before .before .before .before .before .before .before .before .reduce-bench in
-    let y = c .before .before .before .before .before .before .lay-store in
+    let g = c .before .before .before .before .before .before .before .before .before .before .before .before .before .before .before .before .before .before .before .before .before .before .before .before .before .before .before .before .before .args in
+    let p = c .before .before .before .before .before .before .before .before .before .before .before .before .before .before .before .before .before .before .before .before .before .before .before .before .before .before .before .before .before .pre in
+    let r = c .before .before .before .before .before .before .before .before .before .before .before .before .before .before .before .before .before .before .before .before .before .before .before .room16 in
+    let x = c .before .before .before .before .before .before .before .before .before .before .before .before .before .before .before .before .before .before .reduce-bench in
+    let y = c .before .before .before .before .before .before .before .lay-store in
     let n = g .n in
     let s = g .store .now in
     let h = p .1 .1 .1 .1 .0 in
@@ -103,7 +107,7 @@ returns c =
     let e = store-reduced (g .m) n (g .jacobian .now) (g .residuals .now) s (r .result) v d (g .bench .now) b (g .order .now) o (a + n - a) (p .0) (p .1 .0) (p .1 .1 .0) (p .1 .1 .1 .0) h (p .1 .1 .1 .1 .1) (r .ensures) (omega arith) (x .ensures) in
     let f = front-again n d (r .result) (lent-fits n (r .result) (r .ensures) (p .0 .across)) (x .kept .1 .1 .1 .1 .1 .0) in (
       room-laid (g .m) n (g .jacobian .now) (g .residuals .now) v d _ b o e f _ s (patch a (a + n - a) s v) (norms-read n s v h lv (a + n - a) (omega arith)) (norms-past n s v h lv (a + n - a) (omega arith)) (y .ensures .0),
-      (e .order, (c .before .before .clear-long .ensures ∙ ap zeros (x .kept .1 .1 .1 .1 .1 .1 .1 .0), room-long (g .m) n (g .jacobian .now) (g .residuals .now) v d _ b o e f (y .ensures .1))),
+      (e .order, (c .before .before .before .clear-long .ensures ∙ ap zeros (x .kept .1 .1 .1 .1 .1 .1 .1 .0), (room-long (g .m) n (g .jacobian .now) (g .residuals .now) v d _ b o e f (y .ensures .1), c .seen-of .ensures ∙ ap seenIn (e .reply)))),
     )
 
 pub factor-room-spec : {M : Type 1} → statement M
@@ -125,6 +129,7 @@ factor-room-spec =
     slice-aggregate-lay-store
     lay-store-requires
     clear-long-requires
+    seen-of-requires
     same-length
     same-length-2
     same-length-3

@@ -69,7 +69,7 @@ returns : tie.Need-returns
 returns c =
     let g = c .before .before .before .before .before .before .before .before .before .before .before .before .before .before .before .before .before .before .before .before .args in
     let x = c .before .before .before .before .before .before .before .before .before .factor-room in
-    stands (g .m) (g .n) (g .jacobian .now) (g .residuals .now) (g .store .now) (x .ensures .1 .1 .1) (g .order .now) (x .last .1 .1 .1 .1 .1 .0) (g .bench .now) (x .last .1 .1 .1 .1 .0) (x .last .1 .1 .1 .1 .1 .1 .0) (x .ensures .0) (x .ensures .1 .0) (x .ensures .1 .1 .0) (c .before .before .before .before .before .before .before .before .before .before .before .before .before .before .before .before .before .before .before .before .pre .1 .1 .1 .1 .1) (sym (c .before .all-finite .ensures) ∙ c .if1 .taken)
+    stands (g .m) (g .n) (g .jacobian .now) (g .residuals .now) (g .store .now) (x .ensures .1 .1 .1 .0) (g .order .now) (x .last .1 .1 .1 .1 .1 .0) (g .bench .now) (x .last .1 .1 .1 .1 .0) (x .last .1 .1 .1 .1 .1 .1 .0) (x .ensures .0) (x .ensures .1 .0) (x .ensures .1 .1 .0) (x .result) (x .ensures .1 .1 .1 .1) (c .before .before .before .before .before .before .before .before .before .before .before .before .before .before .before .before .before .before .before .before .pre .1 .1 .1 .1 .1) (sym (c .before .all-finite .ensures) ∙ c .if1 .taken)
 
 clear-requires : tie.Need-clear-requires
 clear-requires c κs =
@@ -93,7 +93,7 @@ returns-2 c =
     let g = c .before .before .before .before .before .before .before .before .before .before .before .before .before .before .before .before .before .before .before .before .before .before .before .before .before .before .before .args in
     let x = c .before .before .before .before .before .before .before .before .before .before .before .before .before .before .before .before .factor-room in
     let z = c .before .before .before .before .clear in
-    falls (g .m) (g .n) (g .jacobian .now) (g .residuals .now) (g .store .now) (x .ensures .1 .1 .1) (g .order .now) (x .last .1 .1 .1 .1 .1 .0) (g .bench .now) (x .last .1 .1 .1 .1 .0) (x .last .1 .1 .1 .1 .1 .1 .0) (x .ensures .0) (x .ensures .1 .0) (x .ensures .1 .1 .0) (c .before .before .before .before .before .before .before .before .before .before .before .before .before .before .before .before .before .before .before .before .before .before .before .before .before .before .before .pre .1 .1 .1 .1 .1) _ _ (x .kept .1 .1 .1 .1 .1 .0 ∙ length-take-le (g .n) (g .order .now) (c .before .before .before .before .before .before .before .before .before .before .before .before .before .before .before .before .before .before .before .before .before .before .before .before .before .before .before .pre .1 .1 .1 .1 .0)) (sym (c .before .before .before .before .before .before .before .before .all-finite .ensures) ∙ c .before .before .before .before .before .before .before .if1 .left) (z .ensures .0) (z .ensures .1)
+    falls (g .m) (g .n) (g .jacobian .now) (g .residuals .now) (g .store .now) (x .ensures .1 .1 .1 .0) (g .order .now) (x .last .1 .1 .1 .1 .1 .0) (g .bench .now) (x .last .1 .1 .1 .1 .0) (x .last .1 .1 .1 .1 .1 .1 .0) (x .ensures .0) (x .ensures .1 .0) (x .ensures .1 .1 .0) (x .result) (x .ensures .1 .1 .1 .1) (c .before .before .before .before .before .before .before .before .before .before .before .before .before .before .before .before .before .before .before .before .before .before .before .before .before .before .before .pre .1 .1 .1 .1 .1) _ _ (x .kept .1 .1 .1 .1 .1 .0 ∙ length-take-le (g .n) (g .order .now) (c .before .before .before .before .before .before .before .before .before .before .before .before .before .before .before .before .before .before .before .before .before .before .before .before .before .before .before .pre .1 .1 .1 .1 .0)) (sym (c .before .before .before .before .before .before .before .before .all-finite .ensures) ∙ c .before .before .before .before .before .before .before .if1 .left) (z .ensures .0) (z .ensures .1)
 
 pub factor-working-spec : {M : Type 1} → statement M
 factor-working-spec =

@@ -36,10 +36,10 @@ same-length-3 c = search needs
 
 returns-2 : tie.Need-returns-2
 returns-2 c =
-    let g = c .before .before .before .before .before .before .before .before .before .before .before .before .before .before .before .before .before .before .args in
-    let x = c .before .before .before .before .before .before .before .before .before .before .before .before .check-factor in
-    let w = c .before .before .before .before .before .before .before .factor-working in
-    factoring-answered (g .m) (g .n) (g .jacobian .now) (g .residuals .now) (g .store .now) (g .order .now) (g .bench .now) (x .result) (w .result) _ _ _ (x .ensures) (c .before .before .before .before .before .before .before .before .before .before .before .if1 .left) (c .if2 .taken) (w .ensures)
+    let g = c .before .before .before .before .before .before .before .before .before .before .before .before .before .before .before .before .before .before .before .args in
+    let x = c .before .before .before .before .before .before .before .before .before .before .before .before .before .check-factor in
+    let w = c .before .before .before .before .before .before .before .before .factor-working in
+    factoring-answered (g .m) (g .n) (g .jacobian .now) (g .residuals .now) (g .store .now) (g .order .now) (g .bench .now) (x .result) (w .result .finite) (w .result .seen) _ _ _ (x .ensures) (c .before .before .before .before .before .before .before .before .before .before .before .before .if1 .left) (c .if2 .taken) (w .ensures)
 
 same-length-4 : tie.Need-same-length-4
 same-length-4 c = search needs
@@ -52,10 +52,10 @@ same-length-6 c = search needs
 
 returns-3 : tie.Need-returns-3
 returns-3 c =
-    let g = c .before .before .before .before .before .before .before .before .before .before .before .before .before .before .before .before .before .before .args in
-    let x = c .before .before .before .before .before .before .before .before .before .before .before .before .check-factor in
-    let w = c .before .before .before .before .before .before .before .factor-working in
-    factoring-broken (g .m) (g .n) (g .jacobian .now) (g .residuals .now) (g .store .now) (g .order .now) (g .bench .now) (x .result) (w .result) _ _ _ (x .ensures) (c .before .before .before .before .before .before .before .before .before .before .before .if1 .left) (c .if2 .left) (w .ensures)
+    let g = c .before .before .before .before .before .before .before .before .before .before .before .before .before .before .before .before .before .before .before .args in
+    let x = c .before .before .before .before .before .before .before .before .before .before .before .before .before .check-factor in
+    let w = c .before .before .before .before .before .before .before .before .factor-working in
+    factoring-broken (g .m) (g .n) (g .jacobian .now) (g .residuals .now) (g .store .now) (g .order .now) (g .bench .now) (x .result) (w .result .finite) (w .result .seen) _ _ _ (x .ensures) (c .before .before .before .before .before .before .before .before .before .before .before .before .if1 .left) (c .if2 .left) (w .ensures)
 
 pub pivoted-qr-spec : {M : Type 1} → statement M
 pivoted-qr-spec =

@@ -8,6 +8,7 @@ use lib.ListN.{length, drop}
 use lib.Ieee.{inFloat, ofBits, round}
 use Rattle.leaves.specs.Norm.{agiant as agiantOf, rgiant, accumulate, none}
 use Rattle.leaves.proofs.Norms.{accumulate-step, accumulate-end, norm-is}
+use Rattle.leaves.proofs.Flags.{ranges-are}
 use Rattle.leaves.proofs.norm.sum_up.Statement.{statement}
 use Rattle.leaves.proofs.norm.sum_up.Tie as tie
 
@@ -46,15 +47,20 @@ loop-again c =
     let h = c .before .before .loop-test .taken in
     (l .inv .0, search needs, l .inv .2, rw (c .step .ensures) (accumulate-step _ (l .t) _ (l .i) h ∙ l .inv .3))
 
+seen-in-requires : tie.Need-seen-in-requires Inv-loop μ-loop
+seen-in-requires c κs = search needs
+
 finish-requires : tie.Need-finish-requires Inv-loop μ-loop
 finish-requires c κs = search needs
 
 returns : tie.Need-returns Inv-loop μ-loop
 returns c =
-    let l = c .before .before .loop in
-    let v = c .before .before .before .before .before .args .v .now in
-    let last = sym (accumulate-end _ (l .t) v (l .i) (c .before .loop-test .left)) ∙ l .inv .3 in
-    c .finish .ensures ∙ norm-is v _ (l .t) (l .inv .2) last
+    let l = c .before .before .before .loop in
+    let v = c .before .before .before .before .before .before .args .v .now in
+    let last = sym (accumulate-end _ (l .t) v (l .i) (c .before .before .loop-test .left)) ∙ l .inv .3 in
+    let number = c .finish .ensures ∙ norm-is v _ (l .t) (l .inv .2) last in
+    let seen = c .before .seen-in .ensures ∙ ranges-are v _ (l .t) (l .inv .2) last in
+    rw (number, seen) refl
 
 pub sum-up-spec : {M : Type 1} → statement M
 sum-up-spec =
@@ -70,5 +76,6 @@ sum-up-spec =
     add-i
     loop-less
     loop-again
+    seen-in-requires
     finish-requires
     returns)

@@ -4,7 +4,7 @@ use borrow.Author.Needs.{needs}
 use lib.ListN.{take}
 use lib.Ieee.{ofBits}
 use Rattle.factor.specs.Solve.{gather}
-use Rattle.measures.proofs.gradient.Gradients.{jx-is}
+use Rattle.measures.proofs.gradient.Gradients.{jx-is, jx-seen}
 use Rattle.measures.proofs.gradient.jx_norm.Statement.{statement}
 use Rattle.measures.proofs.gradient.jx_norm.Tie as tie
 
@@ -26,7 +26,10 @@ returns : tie.Need-returns
 unfolding ofBits
 returns c =
     let g = c .before .before .before .before .before .before .before .before .before .before .before .before .before .before in
-    c .norm-of .ensures ∙ jx-is (g .args .n) (g .args .square .now) (gather (take (g .args .n) (g .args .order .now)) (g .args .x .now)) (g .args .w .now) (g .pre .1 .0 .1) (c .before .before .before .before .before .before .before .before .fill .ensures) (c .before .before .before .before .combine .ensures)
+    let xs = gather (take (g .args .n) (g .args .order .now)) (g .args .x .now) in
+    let e = c .before .before .before .before .before .before .before .before .fill .ensures in
+    let f = c .before .before .before .before .combine .ensures in
+    (c .norm-of .ensures .0 ∙ jx-is (g .args .n) (g .args .square .now) xs (g .args .w .now) (g .pre .1 .0 .1) e f, c .norm-of .ensures .1 ∙ jx-seen (g .args .n) (g .args .square .now) xs (g .args .w .now) (g .pre .1 .0 .1) e f)
 
 pub jx-norm-spec : {M : Type 1} → statement M
 jx-norm-spec =

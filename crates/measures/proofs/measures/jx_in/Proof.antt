@@ -46,10 +46,10 @@ same-length-2 c = search needs
 
 returns : tie.Need-returns
 returns c =
-    let g = c .before .before .before .before .before .before .before .before .before .before .before .before .before .before .before .args in
-    let p = c .before .before .before .before .before .before .before .before .before .before .before .before .before .before .before .pre in
+    let g = c .before .before .before .before .before .before .before .before .before .before .before .before .before .before .before .before .args in
+    let p = c .before .before .before .before .before .before .before .before .before .before .before .before .before .before .before .before .pre in
     let i = one-inside (p .0 .0) (p .0 .1) in
-    (jx-finite (g .n) (g .store .now) (g .order .now) (g .x .now) (c .before .before .before .before .before .before .before .before .jx-norm .ensures) (c .before .is-finite .ensures) (c .if1 .taken), rested-by i (g .store .now) (p .0 .1) (c .before .before .before .before .rest .ensures))
+    (jx-finite (g .n) (g .store .now) (g .order .now) (g .x .now) (c .before .before .before .before .before .before .before .before .before .jx-norm .ensures .0) (c .before .before .before .before .before .before .before .before .before .jx-norm .ensures .1) (c .before .before .is-finite .ensures) (c .before .if1 .taken), rested-by i (g .store .now) (p .0 .1) (c .before .before .before .before .before .rest .ensures))
 
 same-length-3 : tie.Need-same-length-3
 same-length-3 c = search needs
@@ -62,7 +62,7 @@ returns-2 c =
     let g = c .before .before .before .before .before .before .before .before .before .before .before .before .before .before .before .args in
     let p = c .before .before .before .before .before .before .before .before .before .before .before .before .before .before .before .pre in
     let i = one-inside (p .0 .0) (p .0 .1) in
-    (jx-infinite (g .n) (g .store .now) (g .order .now) (g .x .now) (c .before .before .before .before .before .before .before .before .jx-norm .ensures) (c .before .is-finite .ensures) (c .if1 .left), rested-by i (g .store .now) (p .0 .1) (c .before .before .before .before .rest .ensures))
+    (jx-infinite (g .n) (g .store .now) (g .order .now) (g .x .now) (c .before .before .before .before .before .before .before .before .jx-norm .ensures .0) (c .before .before .before .before .before .before .before .before .jx-norm .ensures .1) (c .before .is-finite .ensures) (c .if1 .left), rested-by i (g .store .now) (p .0 .1) (c .before .before .before .before .rest .ensures))
 
 pub jx-in-spec : {M : Type 1} → statement M
 jx-in-spec =

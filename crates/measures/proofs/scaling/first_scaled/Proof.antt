@@ -37,7 +37,7 @@ returns : tie.Need-returns
 returns c =
     let g = c .before .before .before .before .before .before .before .before .before .before .before .before .before .before .before .before .before .before .before in
     let ed = c .before .before .before .before .before .before .before .before .before .before .before .before .first-scaling .ensures in
-    let et = c .before .before .before .start-by .ensures ∙ ap (startBy (g .args .bound)) (c .before .before .before .before .before .before .scaled-norm .ensures) in
+    let et = c .before .before .before .start-by .ensures ∙ ap (startBy (g .args .bound)) (c .before .before .before .before .before .before .scaled-norm .ensures .0) in
     first-refused (g .args .n) (g .args .norms .now) (g .args .diag .now) (g .args .x .now) (g .args .bound) (g .pre .0 .1) ed et (c .before .all-finite .ensures) (c .if1 .taken)
 
 is-usable-requires : tie.Need-is-usable-requires
@@ -53,7 +53,7 @@ returns-2 : tie.Need-returns-2
 returns-2 c =
     let g = c .before .before .before .before .before .before .before .before .before .before .before .before .before .before .before .before .before .before .before .before .before in
     let ed = c .before .before .before .before .before .before .before .before .before .before .before .before .before .before .first-scaling .ensures in
-    let et = c .before .before .before .before .before .start-by .ensures ∙ ap (startBy (g .args .bound)) (c .before .before .before .before .before .before .before .before .scaled-norm .ensures) in
+    let et = c .before .before .before .before .before .start-by .ensures ∙ ap (startBy (g .args .bound)) (c .before .before .before .before .before .before .before .before .scaled-norm .ensures .0) in
     start-refused (g .args .n) (g .args .norms .now) (g .args .diag .now) (g .args .x .now) (g .args .bound) (g .pre .0 .1) ed et (c .before .before .before .all-finite .ensures) (c .before .before .if1 .left) (c .before .is-usable .ensures) (c .if2 .taken)
 
 slice-relend-prefix-copy-of : tie.Need-slice-relend-prefix-copy-of
@@ -79,10 +79,10 @@ same-length-7 c = search needs
 
 returns-3 : tie.Need-returns-3
 returns-3 c =
-    let g = c .before .before .before .before .before .before .before .before .before .before .before .before .before .before .before .before .before .before .before .before .before .before .before .before .before .before in
-    let ed = c .before .before .before .before .before .before .before .before .before .before .before .before .before .before .before .before .before .before .before .first-scaling .ensures in
-    let et = c .before .before .before .before .before .before .before .before .before .before .start-by .ensures ∙ ap (startBy (g .args .bound)) (c .before .before .before .before .before .before .before .before .before .before .before .before .before .scaled-norm .ensures) in
-    first-given (g .args .n) (g .args .norms .now) (g .args .diag .now) (g .args .x .now) (g .args .bound) (g .pre .0 .1) ed et (c .before .before .before .before .before .before .before .before .all-finite .ensures) _ (c .before .before .before .before .before .before .before .if1 .left) (c .before .before .before .before .before .before .is-usable .ensures) (c .before .before .before .before .before .if2 .left) (c .before .before .copy-of .ensures)
+    let g = c .before .before .before .before .before .before .before .before .before .before .before .before .before .before .before .before .before .before .before .before .before .before .before .before .before .before .before in
+    let ed = c .before .before .before .before .before .before .before .before .before .before .before .before .before .before .before .before .before .before .before .before .first-scaling .ensures in
+    let et = c .before .before .before .before .before .before .before .before .before .before .before .start-by .ensures ∙ ap (startBy (g .args .bound)) (c .before .before .before .before .before .before .before .before .before .before .before .before .before .before .scaled-norm .ensures .0) in
+    first-given (g .args .n) (g .args .norms .now) (g .args .diag .now) (g .args .x .now) (g .args .bound) (g .pre .0 .1) ed et (c .before .before .before .before .before .before .before .before .before .all-finite .ensures) _ (c .before .before .before .before .before .before .before .before .before .before .before .before .before .before .scaled-norm .ensures .1) (c .before .before .before .before .before .before .before .before .if1 .left) (c .before .before .before .before .before .before .before .is-usable .ensures) (c .before .before .before .before .before .before .if2 .left) (c .before .before .before .copy-of .ensures)
 
 pub first-scaled-spec : {M : Type 1} → statement M
 first-scaled-spec =

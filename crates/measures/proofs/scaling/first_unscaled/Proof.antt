@@ -26,14 +26,14 @@ is-usable-requires c κs = search needs
 
 returns : tie.Need-returns
 returns c =
-    let g = c .before .before .before .before .before .before .args in
-    let e = c .before .before .start-by .ensures ∙ ap (startBy (g .bound)) (c .before .before .before .norm-of .ensures) in
-    ap (λ (r : Reply Scaled × List Float). r .0) (unscaled-given (g .n) [] [] (g .x .now) (g .bound) e (c .before .is-usable .ensures) (c .if1 .taken))
+    let g = c .before .before .before .before .before .before .before .args in
+    let e = c .before .before .before .start-by .ensures ∙ ap (startBy (g .bound)) (c .before .before .before .before .norm-of .ensures .0) in
+    ap (λ (r : Reply Scaled × List Float). r .0) (unscaled-given (g .n) [] [] (g .x .now) (g .bound) e (c .before .before .is-usable .ensures) (c .before .before .before .before .norm-of .ensures .1) (c .before .if1 .taken))
 
 returns-2 : tie.Need-returns-2
 returns-2 c =
     let g = c .before .before .before .before .before .before .args in
-    let e = c .before .before .start-by .ensures ∙ ap (startBy (g .bound)) (c .before .before .before .norm-of .ensures) in
+    let e = c .before .before .start-by .ensures ∙ ap (startBy (g .bound)) (c .before .before .before .norm-of .ensures .0) in
     ap (λ (r : Reply Scaled × List Float). r .0) (unscaled-refused (g .n) [] [] (g .x .now) (g .bound) e (c .before .is-usable .ensures) (c .if1 .left))
 
 pub first-unscaled-spec : {M : Type 1} → statement M

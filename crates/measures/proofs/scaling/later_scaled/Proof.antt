@@ -45,6 +45,9 @@ copy-of-requires-2 c κs =
     let f = c .before .before .before .before .before .before .before .later-scaling .kept .1 .0 in
     simp length-take (omega (arith, e, f, p .1, p .2))
 
+neither-requires : tie.Need-neither-requires
+neither-requires c κs = search needs
+
 same-length-3 : tie.Need-same-length-3
 same-length-3 c = search needs
 
@@ -53,8 +56,8 @@ same-length-4 c = search needs
 
 returns-2 : tie.Need-returns-2
 returns-2 c =
-    let g = c .before .before .before .before .before .before .before .before .before .before .before .before .before .before .before .before .before .before .before .before in
-    later-given (g .args .n) (g .args .norms .now) (g .args .diag .now) (g .pre .0) (g .pre .2) (c .before .before .before .before .before .before .before .before .before .before .before .before .before .before .copy-of .ensures) (c .before .before .before .before .before .before .before .before .before .before .later-scaling .ensures) (c .before .before .before .before .before .before .all-finite .ensures) _ (c .before .before .before .before .before .if1 .left) (c .before .before .copy-of2 .ensures)
+    let g = c .before .before .before .before .before .before .before .before .before .before .before .before .before .before .before .before .before .before .before .before .before in
+    later-given (g .args .n) (g .args .norms .now) (g .args .diag .now) (g .pre .0) (g .pre .2) (c .before .before .before .before .before .before .before .before .before .before .before .before .before .before .before .copy-of .ensures) (c .before .before .before .before .before .before .before .before .before .before .before .later-scaling .ensures) (c .before .before .before .before .before .before .before .all-finite .ensures) _ (c .neither .ensures) (c .before .before .before .before .before .before .if1 .left) (c .before .before .before .copy-of2 .ensures)
 
 pub later-scaled-spec : {M : Type 1} → statement M
 later-scaled-spec =
@@ -71,6 +74,7 @@ later-scaled-spec =
     slice-relend-prefix-copy-of
     slice-aggregate-copy-of-2
     copy-of-requires-2
+    neither-requires
     same-length-3
     same-length-4
     returns-2)

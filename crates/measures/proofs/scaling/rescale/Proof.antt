@@ -71,6 +71,9 @@ later-scaled-requires c κs =
 enum-told-4 : tie.Need-enum-told-4
 enum-told-4 c = search needs
 
+neither-requires : tie.Need-neither-requires
+neither-requires c κs = search needs
+
 same-length : tie.Need-same-length
 same-length c = search needs
 
@@ -94,8 +97,8 @@ returns-3 c =
 
 returns-4 : tie.Need-returns-4
 returns-4 c =
-    let g = c .before .before .before .before .before .before .before .args in
-    kept-all (g .n) (g .norms .now) (g .diag .now) (g .x .now) (g .bound) (c .enum-told4 .given .1)
+    let g = c .before .before .before .before .before .before .before .before .args in
+    kept-all (g .n) (g .norms .now) (g .diag .now) (g .x .now) (g .bound) (c .neither .ensures) (c .before .enum-told4 .given .1)
 
 pub rescale-spec : {M : Type 1} → statement M
 rescale-spec =
@@ -116,6 +119,7 @@ rescale-spec =
     slice-aggregate-later-scaled
     later-scaled-requires
     enum-told-4
+    neither-requires
     same-length
     returns
     returns-2

@@ -46,7 +46,8 @@ same-length-5 c = c .before .before .before .before .before .before .before .bef
 returns : tie.Need-returns
 returns c =
     let g = c .before .before .before .before .before .before .before .before .before .before .before .before .before .before .before .before .before .before .before .before .before .before .before .before .before .before .before .before .before .before .args in
-    begun (g .m) (g .n) (g .jacobian .now) (g .residuals .now) (c .before .before .before .before .before .before .before .before .before .before .before .before .before .before .before .before .before .before .before .before .before .copy-in .last .1 .1 .1 .1 .0) (c .before .before .before .before .before .before .before .before .before .before .before .before .before .before .before .before .norms-in .last .1 .1 .1 .0) _ _ _ (g .order .now) (c .before .before .before .before .before .before .before .before .before .before .before .before .before .before .before .before .before .before .before .before .before .before .before .before .before .before .before .before .before .before .pre .1 .1 .0) (c .before .before .before .before .before .before .before .before .before .before .before .before .before .before .before .before .before .before .before .before .before .before .before .before .before .before .before .before .before .before .pre .1 .1 .1 .0) (c .before .before .before .before .before .before .before .before .before .before .before .before .before .before .before .before .before .before .before .before .before .copy-in .ensures) (c .before .before .before .before .before .before .before .before .before .before .before .before .before .before .before .before .norms-in .ensures) (c .before .before .before .before .before .before .before .before .before .before .before .copy-of .ensures) (c .before .before .before .before .before .before .copy-of2 .ensures) (c .before .before .count .ensures) (c .before .before .before .before .before .before .before .before .before .before .before .before .before .before .before .before .before .before .before .before .before .before .before .before .before .before .before .before .before .before .pre .1 .1 .1 .1 .1 .1 .1)
+    let b = begun (g .m) (g .n) (g .jacobian .now) (g .residuals .now) (c .before .before .before .before .before .before .before .before .before .before .before .before .before .before .before .before .before .before .before .before .before .copy-in .last .1 .1 .1 .1 .0) (c .before .before .before .before .before .before .before .before .before .before .before .before .before .before .before .before .norms-in .last .1 .1 .1 .0) _ _ _ (g .order .now) (c .before .before .before .before .before .before .before .before .before .before .before .before .before .before .before .before .before .before .before .before .before .before .before .before .before .before .before .before .before .before .pre .1 .1 .0) (c .before .before .before .before .before .before .before .before .before .before .before .before .before .before .before .before .before .before .before .before .before .before .before .before .before .before .before .before .before .before .pre .1 .1 .1 .0) (c .before .before .before .before .before .before .before .before .before .before .before .before .before .before .before .before .before .before .before .before .before .copy-in .ensures) (c .before .before .before .before .before .before .before .before .before .before .before .before .before .before .before .before .norms-in .ensures .0) (c .before .before .before .before .before .before .before .before .before .before .before .copy-of .ensures) (c .before .before .before .before .before .before .copy-of2 .ensures) (c .before .before .count .ensures) (c .before .before .before .before .before .before .before .before .before .before .before .before .before .before .before .before .before .before .before .before .before .before .before .before .before .before .before .before .before .before .pre .1 .1 .1 .1 .1 .1 .1) in
+    (b .0, (b .1 .0, c .before .before .before .before .before .before .before .before .before .before .before .before .before .before .before .before .norms-in .ensures .1 ∙ b .1 .1))
 
 pub begin-spec : {M : Type 1} → statement M
 begin-spec =

@@ -9,7 +9,7 @@ use lib.ListN.{length, replicate}
 use lib.Seq.{length-take-le}
 use lib.Ieee.{Float}
 use Rattle.leaves.specs.Number.{plusZero}
-use Rattle.reduce.proofs.Lent.{Lengths, passed, benched, front-in, front-again, front-long, start-norms, call-refuses, call-works-out}
+use Rattle.reduce.proofs.Lent.{Lengths, passed, benched, front-in, front-again, front-long, start-norms, start-seen, call-refuses, call-works-out}
 use Rattle.reduce.proofs.bench.reduce_bench.Statement.{statement}
 use Rattle.reduce.proofs.bench.reduce_bench.Tie as tie
 use Rattle.leaves.proofs.Insides.{inside}
@@ -62,7 +62,7 @@ reduce-requires c κs =
     let l = passed (c .before .before .before .before .before .before .before .before .before .before .before .before .before .before .before .before .before .before .before .before .before .before .before .check .ensures) (c .before .before .before .before .before .before .before .before .before .before .before .before .before .before .before .before .before .before .before .before .before .before .if1 .left) in
     let x = c .before .before .before .before .before .before .before .before .before .before .before .before .before .before .begin in
     let w = front-long _ (x .last .1 .1 .1 .1 .1 .1 .0) _ (scratch _ l (c .before .before .before .before .before .before .before .before .before .before .before .before .before .before .before .before .before .before .before .before .before .room16 .ensures)) (x .kept .1 .1 .1 .1 .1 .1 .0) in
-    (benched _ (inside _ _ (l .sizes)) (x .kept .1 .1 .1 .1 .1 .1 .1 .1 .0 ∙ l .bench-long), (x .kept .1 .1 .1 .1 .1 .0 ∙ l .diag-long, (w, (x .kept .1 .1 .1 .1 .1 .1 .1 .0 ∙ l .order-long, (c .before .before .before .before .before .before .before .before .before .before .before .before .before .before .before .before .before .before .before .before .room128 .ensures, start-norms _ _ _ _ _ _ _ _ (x .ensures .1))))))
+    (benched _ (inside _ _ (l .sizes)) (x .kept .1 .1 .1 .1 .1 .1 .1 .1 .0 ∙ l .bench-long), (x .kept .1 .1 .1 .1 .1 .0 ∙ l .diag-long, (w, (x .kept .1 .1 .1 .1 .1 .1 .1 .0 ∙ l .order-long, (c .before .before .before .before .before .before .before .before .before .before .before .before .before .before .before .before .before .before .before .before .room128 .ensures, (start-norms _ _ _ _ _ _ _ _ (x .ensures .1 .0), start-seen _ _ _ _ _ _ _ _ (x .ensures .1 .0) (x .ensures .1 .1)))))))
 
 same-length : tie.Need-same-length
 same-length c = c .before .before .before .before .before .before .before .before .before .before .before .before .before .before .before .before .before .before .before .before .before .before .before .begin .kept .1 .1 .1 .1 .0
@@ -83,7 +83,7 @@ returns-2 c =
     let x = c .before .before .before .before .before .before .before .before .before .before .before .before .before .before .before .before .before .before .before .before .before .before .before .begin in
     let y = c .before .before .before .before .before .before .before .before .reduce in
     let w = front-again (g .n) (x .last .1 .1 .1 .1 .1 .1 .0) (c .before .before .before .before .before .before .before .before .before .before .before .before .before .before .before .before .before .before .before .before .before .before .before .before .before .before .before .before .before .before .room16 .result) (scratch _ l (c .before .before .before .before .before .before .before .before .before .before .before .before .before .before .before .before .before .before .before .before .before .before .before .before .before .before .before .before .before .before .room16 .ensures)) (x .kept .1 .1 .1 .1 .1 .1 .0) in
-    call-works-out (g .m) (g .n) (g .jacobian .now) (g .residuals .now) (g .norms .now) (g .diag .now) (g .order .now) (g .bench .now) (x .last .1 .1 .1 .1 .0) (x .last .1 .1 .1 .1 .1 .0) (x .last .1 .1 .1 .1 .1 .1 .0) _ (x .last .1 .1 .1 .1 .1 .1 .1 .1 .0) (y .last .1 .1 .1 .0) (y .last .1 .1 .1 .1 .0) (y .last .1 .1 .0) (x .last .1 .1 .1 .1 .1 .1 .1 .0) (y .last .1 .1 .1 .1 .1 .0) (sym (c .before .before .before .before .before .before .before .before .before .before .before .before .before .before .before .before .before .before .before .before .before .before .before .before .before .before .before .before .before .before .before .before .check .ensures) ∙ c .before .before .before .before .before .before .before .before .before .before .before .before .before .before .before .before .before .before .before .before .before .before .before .before .before .before .before .before .before .before .before .if1 .left) (x .ensures .0) (x .ensures .1) w (y .ensures) (y .kept .1 .1 .0 ∙ x .kept .1 .1 .1 .1 .1 .1 .1 .1 .0)
+    call-works-out (g .m) (g .n) (g .jacobian .now) (g .residuals .now) (g .norms .now) (g .diag .now) (g .order .now) (g .bench .now) (x .last .1 .1 .1 .1 .0) (x .last .1 .1 .1 .1 .1 .0) (x .last .1 .1 .1 .1 .1 .1 .0) _ (x .last .1 .1 .1 .1 .1 .1 .1 .1 .0) (y .last .1 .1 .1 .0) (y .last .1 .1 .1 .1 .0) (y .last .1 .1 .0) (x .last .1 .1 .1 .1 .1 .1 .1 .0) (y .last .1 .1 .1 .1 .1 .0) (x .result) (y .result) (sym (c .before .before .before .before .before .before .before .before .before .before .before .before .before .before .before .before .before .before .before .before .before .before .before .before .before .before .before .before .before .before .before .before .check .ensures) ∙ c .before .before .before .before .before .before .before .before .before .before .before .before .before .before .before .before .before .before .before .before .before .before .before .before .before .before .before .before .before .before .before .if1 .left) (x .ensures .0) (x .ensures .1 .0) w (y .ensures .0) (x .ensures .1 .1) (y .ensures .1) (y .kept .1 .1 .0 ∙ x .kept .1 .1 .1 .1 .1 .1 .1 .1 .0)
 
 pub reduce-bench-spec : {M : Type 1} → statement M
 reduce-bench-spec =

@@ -3,7 +3,7 @@ use Prim.Native.Nat.{_+_, _-_, suc}
 use mathlib.Core.Path.{ap, _∙_}
 use native.Mathlib.Omega.{arith}
 use borrow.Author.Needs.{needs}
-use Rattle.leaves.specs.Norm.{norm}
+use Rattle.leaves.specs.Norm.{norm, ranges}
 use Rattle.leaves.proofs.Grids.{tail-part}
 use Rattle.reduce.proofs.reduce.norm_from.Statement.{statement}
 use Rattle.reduce.proofs.reduce.norm_from.Tie as tie
@@ -36,7 +36,8 @@ returns : tie.Need-returns
 returns c =
     let g = c .before .before .before .before .args in
     let q = c .before .before .row-at in
-    c .norm-of .ensures ∙ ap norm (tail-part (g .m) (suc (g .n)) (g .k) (g .j) (g .bench .now) (q .result) (q .result + (g .m - g .j) - q .result) (q .ensures .0) (omega arith) (omega arith))
+    let e = tail-part (g .m) (suc (g .n)) (g .k) (g .j) (g .bench .now) (q .result) (q .result + (g .m - g .j) - q .result) (q .ensures .0) (omega arith) (omega arith) in
+    (c .norm-of .ensures .0 ∙ ap norm e, c .norm-of .ensures .1 ∙ ap ranges e)
 
 pub norm-from-spec : {M : Type 1} → statement M
 norm-from-spec =

@@ -10,7 +10,7 @@ use Rattle.leaves.proofs.Squares.{columns-length}
 use Rattle.reduce.specs.Reduction.{reflectFrom}
 use Rattle.reduce.specs.inner.Bench.{grid, underWay}
 use Rattle.reduce.proofs.Begins.{kept-bench}
-use Rattle.reduce.proofs.Pivots.{last-column, swept-by, reflected-by}
+use Rattle.reduce.proofs.Pivots.{last-column, swept-by, reflected-by, reflected-sees}
 use Rattle.reduce.proofs.reduce.reflect_from.Statement.{statement}
 use Rattle.reduce.proofs.reduce.reflect_from.Tie as tie
 
@@ -49,17 +49,21 @@ same-length-4 c = c .before .before .before .before .before .before .before .bef
 
 returns : tie.Need-returns
 returns c =
-    λ o. let g = c .before .before .before .before .before .before .before .before .before .before .before .before .before .before .before .before .before .before .before .before .before .before .before .before .before .args in
+    let g = c .before .before .before .before .before .before .before .before .before .before .before .before .before .before .before .before .before .before .before .before .before .before .before .before .before .args in
     let p = c .before .before .before .before .before .before .before .before .before .before .before .before .before .before .before .before .before .before .before .before .before .before .before .before .before .pre in
     let a = c .before .before .before .before .before .before .before .before .before .before .before .before .before .before .before .before .before .before .axis-of in
     let axis = a .last .1 .1 .1 .1 .1 .0 in
     let x = c .before .before .before .before .before .before .before .before .before .before .before .later-columns in
     let b = x .last .1 .1 .1 .1 .0 in
     let first = grid (g .m) (g .n) (g .bench .now) in
-    let r = underWay (g .m) (g .n) (g .bench .now) (g .diag .now) (g .work .now) o in
-    last-column (g .n) (grid (g .m) (g .n) b) _ (reflectFrom (g .j) axis (getD (grid (g .m) (g .n) b) (g .n) [])) _ _ o (columns-length (g .m) (suc (g .n)) b) (c .before .before .reflect-column .ensures)
-    ∙ swept-by (g .n) (g .j) (a .result) axis r _ (p .1 .0) (x .ensures o)
-    ∙ reflected-by (g .n) (g .j) (g .s) (a .result) axis (drop (g .j) (getD first (g .j) [])) r (sym (ap (drop (g .j)) (getD-take (g .n) first (g .j) [] (p .1 .0)))) (a .ensures .0) (a .ensures .1)
+    let col = drop (g .j) (getD first (g .j) []) in
+    let there = sym (ap (drop (g .j)) (getD-take (g .n) first (g .j) [] (p .1 .0))) in (
+      λ o. let r = underWay (g .m) (g .n) (g .bench .now) (g .diag .now) (g .work .now) o in
+          last-column (g .n) (grid (g .m) (g .n) b) _ (reflectFrom (g .j) axis (getD (grid (g .m) (g .n) b) (g .n) [])) _ _ o (columns-length (g .m) (suc (g .n)) b) (c .before .before .reflect-column .ensures)
+          ∙ swept-by (g .n) (g .j) (a .result) axis r _ (p .1 .0) (x .ensures .0 o)
+          ∙ reflected-by (g .n) (g .j) (g .s) (a .result) axis col r there (a .ensures .0) (a .ensures .1),
+      λ o. x .ensures .1 o ∙ reflected-sees (g .n) (g .j) (g .s) (a .result) axis col (underWay (g .m) (g .n) (g .bench .now) (g .diag .now) (g .work .now) o) (g .seen) there (a .ensures .0) (a .ensures .1),
+    )
 
 pub reflect-from-spec : {M : Type 1} → statement M
 reflect-from-spec =

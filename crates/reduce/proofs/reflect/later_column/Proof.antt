@@ -4,7 +4,7 @@ use Prim.Native.Nat.{suc}
 use Rattle.reduce.specs.inner.Bench.{grid}
 use Rattle.leaves.proofs.Squares.{columns-length}
 use Rattle.reduce.proofs.Begins.{kept-bench}
-use Rattle.reduce.proofs.reflect.Reductions.{later-law}
+use Rattle.reduce.proofs.reflect.Reductions.{later-law, later-measured}
 use Rattle.reduce.proofs.reflect.later_column.Statement.{statement}
 use Rattle.reduce.proofs.reflect.later_column.Tie as tie
 
@@ -29,8 +29,14 @@ same-length-3 c = c .before .before .before .before .renew .kept .1 .1 .1 .1 .1 
 
 returns : tie.Need-returns
 returns c =
-    λ o. let g = c .before .before .before .before .before .before .before .before .before .before .before .before .before .before .before .before .args in
-    later-law (g .n) (g .j) (g .k) (g .axis .now) (grid (g .m) (g .n) (g .bench .now)) _ _ _ _ _ o (omega arith) (columns-length (g .m) (suc (g .n)) (g .bench .now)) (c .before .before .before .before .before .before .before .before .before .before .reflect-column .ensures) (c .before .before .before .before .renew .ensures)
+    let g = c .before .before .before .before .before .before .before .before .before .before .before .before .before .before .before .before .args in
+    let b = grid (g .m) (g .n) (g .bench .now) in
+    let long = columns-length (g .m) (suc (g .n)) (g .bench .now) in
+    let x = c .before .before .before .before .before .before .before .before .before .before .reflect-column in
+    let y = c .before .before .before .before .renew in (
+      λ o. later-law (g .n) (g .j) (g .k) (g .axis .now) b _ _ _ _ _ o (c .before .before .before .before .before .before .before .before .before .before .before .before .before .before .before .before .pre .1 .0) long (x .ensures) (y .ensures .0),
+      λ o. later-measured (g .n) (g .j) (g .k) (g .axis .now) b _ _ _ o (g .seen) (c .before .before .before .before .before .before .before .before .before .before .before .before .before .before .before .before .pre .1 .0) long (x .ensures) (y .ensures .1),
+    )
 
 pub later-column-spec : {M : Type 1} → statement M
 later-column-spec =

@@ -6,10 +6,10 @@ use borrow.Author.Needs.{needs}
 use mathlib.Core.List.{[]}
 use lib.ListN.{getD, length-set}
 use lib.Ieee.{ofBits}
-use Rattle.leaves.specs.Norm.{norm}
+use Rattle.leaves.specs.Norm.{norm, ranges}
 use Rattle.reduce.specs.inner.Bench.{grid}
 use Rattle.leaves.proofs.Grids.{grid-read, tail-part}
-use Rattle.reduce.proofs.reflect.Reductions.{renewed-zero, renewed-anew, renewed-less}
+use Rattle.reduce.proofs.reflect.Reductions.{renewed-zero, renewed-anew, renewed-less, remeasured-zero, remeasured-anew, remeasured-less}
 use Rattle.reduce.proofs.reflect.renew.Statement.{statement}
 use Rattle.reduce.proofs.reflect.renew.Tie as tie
 
@@ -21,7 +21,10 @@ slice-read-d c = search needs
 
 returns : tie.Need-returns
 unfolding ofBits
-returns c = let g = c .before .before .before .before .before .args in renewed-zero (g .j) (g .k) (getD (grid (g .m) (g .n) (g .bench .now)) (g .k) []) (g .diag .now) (g .work .now) (c .if1 .taken)
+returns c =
+    let g = c .before .before .before .before .before .args in
+    let col = getD (grid (g .m) (g .n) (g .bench .now)) (g .k) [] in
+    (renewed-zero (g .j) (g .k) col (g .diag .now) (g .work .now) (c .if1 .taken), remeasured-zero (g .j) (g .k) col (g .diag .now) (g .work .now) (g .seen) (c .if1 .taken))
 
 row-at-requires : tie.Need-row-at-requires
 row-at-requires c κs = search needs
@@ -80,6 +83,9 @@ mul-work c = search needs
 slice-write-work : tie.Need-slice-write-work
 slice-write-work c = search needs
 
+either-requires : tie.Need-either-requires
+either-requires c κs = search needs
+
 mul-diag-2 : tie.Need-mul-diag-2
 mul-diag-2 c = search needs
 
@@ -95,11 +101,16 @@ same-length-2 c = simp length-set
 returns-2 : tie.Need-returns-2
 unfolding ofBits
 returns-2 c =
-    let g = c .before .before .before .before .before .before .before .before .before .before .before .before .before .args in
-    let q = c .before .before .before .before .before .before .before .row-at in
+    let g = c .before .before .before .before .before .before .before .before .before .before .before .before .before .before .before .args in
+    let q = c .before .before .before .before .before .before .before .before .before .row-at in
+    let col = getD (grid (g .m) (g .n) (g .bench .now)) (g .k) [] in
     let x = grid-read (g .m) (suc (g .n)) (g .bench .now) (g .k) (g .j) (q .result) (q .ensures .0) (omega arith) (omega arith) in
-    let z = c .norm-of .ensures ∙ ap norm (tail-part (g .m) (suc (g .n)) (g .k) (suc (g .j)) (g .bench .now) (q .result + 1) (q .result + (g .m - g .j) - (q .result + 1)) (omega arith) (omega arith) (omega arith)) in
-    renewed-anew (g .j) (g .k) (getD (grid (g .m) (g .n) (g .bench .now)) (g .k) []) (g .diag .now) (g .work .now) _ (c .before .before .before .before .before .shrunk .result) _ (c .before .before .before .before .before .before .before .before .if1 .left) x (c .before .before .before .before .before .shrunk .ensures) (sym (c .before .before .before .stale .ensures) ∙ c .before .before .if2 .taken) z
+    let t = tail-part (g .m) (suc (g .n)) (g .k) (suc (g .j)) (g .bench .now) (q .result + 1) (q .result + (g .m - g .j) - (q .result + 1)) (omega arith) (omega arith) (omega arith) in
+    let old = sym (c .before .before .before .before .before .stale .ensures) ∙ c .before .before .before .before .if2 .taken in (
+      renewed-anew (g .j) (g .k) col (g .diag .now) (g .work .now) _ (c .before .before .before .before .before .before .before .shrunk .result) _ (c .before .before .before .before .before .before .before .before .before .before .if1 .left) x (c .before .before .before .before .before .before .before .shrunk .ensures) old (c .before .before .norm-of .ensures .0 ∙ ap norm t),
+      c .either .ensures
+          ∙ remeasured-anew (g .j) (g .k) col (g .diag .now) (g .work .now) (g .seen) _ (c .before .before .before .before .before .before .before .shrunk .result) _ (c .before .before .before .before .before .before .before .before .before .before .if1 .left) x (c .before .before .before .before .before .before .before .shrunk .ensures) old (c .before .before .norm-of .ensures .1 ∙ ap ranges t),
+    )
 
 same-length-3 : tie.Need-same-length-3
 same-length-3 c = simp length-set
@@ -109,8 +120,12 @@ unfolding ofBits
 returns-3 c =
     let g = c .before .before .before .before .before .before .before .before .before .before .before .args in
     let q = c .before .before .before .before .before .row-at in
+    let col = getD (grid (g .m) (g .n) (g .bench .now)) (g .k) [] in
     let x = grid-read (g .m) (suc (g .n)) (g .bench .now) (g .k) (g .j) (q .result) (q .ensures .0) (omega arith) (omega arith) in
-    renewed-less (g .j) (g .k) (getD (grid (g .m) (g .n) (g .bench .now)) (g .k) []) (g .diag .now) (g .work .now) (c .before .before .before .shrunk .result) _ (c .before .before .before .before .before .before .if1 .left) x (c .before .before .before .shrunk .ensures) (sym (c .before .stale .ensures) ∙ c .if2 .left)
+    let old = sym (c .before .stale .ensures) ∙ c .if2 .left in (
+      renewed-less (g .j) (g .k) col (g .diag .now) (g .work .now) (c .before .before .before .shrunk .result) _ (c .before .before .before .before .before .before .if1 .left) x (c .before .before .before .shrunk .ensures) old,
+      remeasured-less (g .j) (g .k) col (g .diag .now) (g .work .now) (g .seen) (c .before .before .before .shrunk .result) _ (c .before .before .before .before .before .before .if1 .left) x (c .before .before .before .shrunk .ensures) old,
+    )
 
 pub renew-spec : {M : Type 1} → statement M
 renew-spec =
@@ -138,6 +153,7 @@ renew-spec =
     slice-write-diag
     mul-work
     slice-write-work
+    either-requires
     mul-diag-2
     slice-write-diag-2
     same-length

@@ -2,7 +2,7 @@
 use mathlib.Core.Path.{ap, _∙_}
 use borrow.Author.Needs.{needs}
 use Rattle.leaves.specs.declared.norm.Normed.{Normed}
-use Rattle.leaves.proofs.Norms.{norm-carried}
+use Rattle.leaves.proofs.Norms.{norm-carried, seen-carried}
 use Rattle.reduce.proofs.wrap.norm_of.Statement.{statement}
 use Rattle.reduce.proofs.wrap.norm_of.Tie as tie
 
@@ -10,7 +10,11 @@ enorm-requires : tie.Need-enorm-requires
 enorm-requires c κs = search needs
 
 returns : tie.Need-returns
-returns c = ap (λ (s : Normed). s .value) (c .enorm .ensures) ∙ norm-carried (c .before .before .args .v .now) (c .before .before .pre)
+returns c =
+    let v = c .before .before .before .args .v .now in
+    let h = c .before .before .before .pre in
+    let e = c .before .enorm .ensures in
+    (ap (λ (s : Normed). s .value) e ∙ norm-carried v h, ap (λ (s : Normed). s .seen) e ∙ seen-carried v h)
 
 pub norm-of-spec : {M : Type 1} → statement M
 norm-of-spec = tie.close (tie.spec enorm-requires returns)

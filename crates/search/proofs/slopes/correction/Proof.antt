@@ -15,7 +15,7 @@ same-length : tie.Need-same-length
 same-length c = search needs
 
 returns : tie.Need-returns
-returns c = c .newton-of .ensures ∙ ap (newton _ _) (c .before .before .before .slope-by-damped .ensures)
+returns c = let s = c .before .before .before .before .slope-by-damped .ensures in (c .newton-of .ensures ∙ ap (newton _ _) (s .0), s .1)
 
 pub correction-spec : {M : Type 1} → statement M
 correction-spec =

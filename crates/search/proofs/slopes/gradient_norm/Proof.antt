@@ -1,9 +1,11 @@
 -- `search::slopes::gradient_norm` meets its contract. Assumes nothing.
-use mathlib.Core.Path.{sym, _∙_}
+use mathlib.Core.Path.{sym, ap, _∙_}
 use native.Mathlib.Omega.{arith}
 use borrow.Author.Needs.{needs}
 use Rattle.leaves.specs.Number.{plusZero}
-use Rattle.search.proofs.Workings.{few, order-long, order-below, product-numbers, gnorm-is}
+use Rattle.leaves.specs.Norm.{norm, ranges}
+use Rattle.search.proofs.Workings.{few, order-long, order-below, product-numbers, gradient-is}
+use Rattle.search.proofs.Seeing.{gnorm-measured}
 use Rattle.search.proofs.slopes.gradient_norm.Statement.{statement}
 use Rattle.search.proofs.slopes.gradient_norm.Tie as tie
 
@@ -28,7 +30,8 @@ returns : tie.Need-returns
 returns c =
     let g = c .before .before .before .before .before .before .before .before .before .before .before .before .before .before in
     let p = c .before .before .before .before .before .before .before .before .product in
-    gnorm-is (g .args .st) (g .args .store .now) (g .args .order .now) (g .pre .0) (g .args .diag .now) (g .pre .1 .0) plusZero _ (p .kept .1 .1 .0 ∙ g .pre .1 .1) (product-numbers (g .args .st) (g .args .store .now) (g .args .order .now) (g .pre .0) _ (g .pre .1 .1) (p .ensures)) (c .before .before .before .before .divide-by .ensures) (c .norm-of .ensures)
+    let u = gradient-is (g .args .st) (g .args .store .now) (g .args .order .now) (g .pre .0) (g .args .diag .now) (g .pre .1 .0) plusZero _ (p .kept .1 .1 .0 ∙ g .pre .1 .1) (product-numbers (g .args .st) (g .args .store .now) (g .args .order .now) (g .pre .0) _ (g .pre .1 .1) (p .ensures)) (c .before .before .before .before .divide-by .ensures) in
+    (c .norm-of .ensures .0 ∙ ap norm u ∙ sym (gnorm-measured _), c .norm-of .ensures .1 ∙ ap ranges u)
 
 pub gradient-norm-spec : {M : Type 1} → statement M
 gradient-norm-spec = tie.close (tie.spec product-requires divide-by-requires norm-of-requires same-length returns)

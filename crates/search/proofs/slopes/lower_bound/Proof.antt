@@ -1,5 +1,5 @@
 -- `search::slopes::lower_bound` meets its contract. Assumes nothing.
-use mathlib.Core.Path.{sym, ap, _∙_}
+use mathlib.Core.Path.{refl, sym, ap, _∙_}
 use lib.Ieee.{ofBits}
 use borrow.Author.Needs.{needs}
 use Rattle.search.specs.Problem.{newton}
@@ -20,13 +20,17 @@ same-length c = search needs
 
 returns : tie.Need-returns
 returns c =
-    let f = c .before .before .before .before .before .before .full-rank .ensures in
-    let t = c .before .before .before .before .before .if1 .taken in
-    rw (sym f ∙ t) (c .newton-of .ensures ∙ ap (newton _ _) (c .before .before .before .slope-by-zero .ensures))
+    let f = c .before .before .before .before .before .before .before .full-rank .ensures in
+    let t = c .before .before .before .before .before .before .if1 .taken in
+    let s = c .before .before .before .before .slope-by-zero .ensures in
+    rw (sym f ∙ t) (c .newton-of .ensures ∙ ap (newton _ _) (s .0), s .1)
+
+neither-requires : tie.Need-neither-requires
+neither-requires c κs = search needs
 
 returns-2 : tie.Need-returns-2
 unfolding ofBits
-returns-2 c = rw (sym (c .before .full-rank .ensures) ∙ c .if1 .left)
+returns-2 c = rw (sym (c .before .before .full-rank .ensures) ∙ c .before .if1 .left) (refl, c .neither .ensures)
 
 pub lower-bound-spec : {M : Type 1} → statement M
 lower-bound-spec =
@@ -37,4 +41,5 @@ lower-bound-spec =
     newton-of-requires
     same-length
     returns
+    neither-requires
     returns-2)

@@ -57,12 +57,12 @@ returns c =
     ∙ ap (λ (k : ℕ). gather (take k (g .args .order .now)) (scaleAll (q .result) (g .args .diag .now))) (g .pre .1 .1)
     ∙ ap (λ (r : Float). gather (take (g .args .st .n) (g .args .order .now)) (scaleAll r (g .args .diag .now))) (q .ensures)
     in (
-      c .norm-of .ensures,
+      c .norm-of .ensures .0,
       (
         scaled-placed (g .args .st) (g .args .store .now) (g .args .order .now) (g .pre .0) (g .args .diag .now) _ _ plusZero (g .pre .1 .0) v l (c .before .before .before .before .place-scaled .ensures),
         (
           damped-placed (g .args .st) (g .args .store .now) (g .args .order .now) (g .pre .0) (g .args .diag .now) (g .args .lambda) (g .pre .1 .0) _ _ e (g .pre .1 .2) (d .ensures) plusZero,
-          damped-store (g .args .st) (g .args .store .now) (g .args .order .now) (g .pre .0) (g .args .diag .now) (g .args .lambda) (g .pre .1 .0) _ _ e (g .pre .1 .2) (d .ensures) plusZero,
+          (damped-store (g .args .st) (g .args .store .now) (g .args .order .now) (g .pre .0) (g .args .diag .now) (g .args .lambda) (g .pre .1 .0) _ _ e (g .pre .1 .2) (d .ensures) plusZero, c .norm-of .ensures .1),
         ),
       ),
     )

@@ -32,10 +32,10 @@ returns c =
     let g = c .before .before .before .before .before .before .before .before .before .before .before .before .before .before .before .before in
     let z = c .before .before .before .before .before .before .before .before .before .zero in
     let l = z .kept .1 .1 .1 .0 ∙ g .pre .1 .2 in (
-      c .norm-of .ensures,
+      c .norm-of .ensures .0,
       (
         scaled-placed (g .args .st) (g .args .store .now) (g .args .order .now) (g .pre .0) (g .args .diag .now) _ _ plusZero (g .pre .1 .0) (g .pre .1 .1) l (c .before .before .before .before .place-scaled .ensures),
-        undamped-placed (g .args .st) (g .args .store .now) (g .args .order .now) (g .pre .0) (g .args .diag .now) _ plusZero (zero-numbers (g .args .st) (g .args .store .now) (g .args .order .now) (g .pre .0) _ (g .pre .1 .2) (z .ensures)),
+        (undamped-placed (g .args .st) (g .args .store .now) (g .args .order .now) (g .pre .0) (g .args .diag .now) _ plusZero (zero-numbers (g .args .st) (g .args .store .now) (g .args .order .now) (g .pre .0) _ (g .pre .1 .2) (z .ensures)), c .norm-of .ensures .1),
       ),
     )
 

@@ -2,21 +2,24 @@
 use Prim.Native.Nat.{suc, _+_, _-_, _≤_}
 use mathlib.Core.Path.{_≡_, refl, sym, ap, _∙_}
 use mathlib.Core.Bool.{true}
-use mathlib.Core.List.{List}
+use mathlib.Core.List.{List, [], _∷_}
 use native.Mathlib.Numerals.{add-one}
 use native.Mathlib.Omega.{arith}
 use borrow.Author.Needs.{needs}
 use borrow.Author.Tests.{not-true, not-false}
 use lib.ListN.{length}
 use lib.Ieee.{Float}
-use Rattle.leaves.specs.Norm.{norm}
+use Rattle.leaves.specs.Norm.{norm, either, ranges, rangesOf}
+use Rattle.leaves.specs.declared.norm.Ranges.{Ranges}
 use Rattle.leaves.specs.Number.{isFinite}
 use Rattle.factor.specs.Room.{load, emptied}
 use Rattle.search.specs.Problem.{Problem, placed, scaledStep}
-use Rattle.search.specs.Run.{trialsFrom}
+use Rattle.search.specs.Run.{Run, trialsFrom}
+use Rattle.search.specs.Measured.{measuredTrials}
 use Rattle.search.specs.Search.{problemOf, concluded}
 use Rattle.search.specs.inner.Read.{Ready, unanswered, nextOf, bare}
 use Rattle.search.proofs.Trying.{Tried, at-lambda, at-norm, at-ten, at-within, at-falling, at-correction, goes-on, again, next-same, mine, told}
+use Rattle.search.proofs.Seeing.{seen-last, seen-again}
 use Rattle.search.proofs.Workings.{ready-after}
 use Rattle.search.proofs.trials.Turning.{step-asked, scaled-asked, damped-kept, correction-asked}
 use Rattle.search.proofs.trials.trials.Statement.{statement}
@@ -29,7 +32,9 @@ Inv-loop st store₀ order diag radius v₀ w₀ s₀ t₀ store v w s t =
     × (length v ≡ length v₀)
     × (length w ≡ length w₀)
     × (emptied (load (st .n) store) ≡ emptied (load (st .n) store₀))
-    × (concluded t unanswered (trialsFrom (problemOf st order diag radius (load (st .n) store₀)) (9 - t) (nextOf s)) ≡ concluded 0 unanswered (trialsFrom (problemOf st order diag radius (load (st .n) store₀)) 9 (nextOf s₀)))
+    × (let p = problemOf st order diag radius (load (st .n) store₀) in
+    (concluded t unanswered (trialsFrom p (9 - t) (nextOf s)) ≡ concluded 0 unanswered (trialsFrom p 9 (nextOf s₀)))
+    × (either (s .seen) (rangesOf (measuredTrials p (trialsFrom p (9 - t) (nextOf s)))) ≡ either (s₀ .seen) (rangesOf (measuredTrials p (trialsFrom p 9 (nextOf s₀))))))
 
 abbrev μ-loop : tie.MeasureT-loop
 μ-loop st store₀ order diag radius v₀ w₀ s₀ t₀ store v w s t = 9 - t
@@ -65,7 +70,7 @@ scaled₁ c =
     let g = c .before .before .before .before .before .before .before .before .before .before .before .before .before in
     scaled-asked (g .args .st) (at₁ c .loop .store) (g .args .order .now) (ready (at₁ c)) (g .args .diag .now) (g .pre .1 .0) (lambda₁ c) (g .args .radius) (load (g .args .st .n) (g .args .store .now)) (at₁ c .loop .inv .4) (w₁ c) (c .damped .ensures .1 .0)
 
-tried₁ : (c : tie.After-damped Inv-loop μ-loop) → Tried (problem (at₁ c)) (nextOf (at₁ c .loop .s)) (at₁ c .loop .t) unanswered (lambda₁ c) (step₁ c) (c .damped .result)
+tried₁ : (c : tie.After-damped Inv-loop μ-loop) → Tried (problem (at₁ c)) (nextOf (at₁ c .loop .s)) (at₁ c .loop .t) unanswered (lambda₁ c) (step₁ c) (c .damped .result .value)
 tried₁ c =
     let g = c .before .before .before .before .before .before .before .before .before .before .before .before .before in
     let d = c .damped .ensures in
@@ -78,13 +83,28 @@ tried₁ c =
 kept₁ : (c : tie.After-damped Inv-loop μ-loop) → emptied (load (c .before .before .before .before .before .before .before .before .before .before .before .before .before .args .st .n) (store₁ c)) ≡ emptied (load (c .before .before .before .before .before .before .before .before .before .before .before .before .before .args .st .n) (c .before .before .before .before .before .before .before .before .before .before .before .before .before .args .store .now))
 kept₁ c =
     let g = c .before .before .before .before .before .before .before .before .before .before .before .before .before in
-    damped-kept (g .args .st) (at₁ c .loop .store) (g .args .order .now) (ready (at₁ c)) (g .args .diag .now) (g .pre .1 .0) (lambda₁ c) (g .args .radius) (load (g .args .st .n) (g .args .store .now)) (at₁ c .loop .inv .4) (store₁ c) (c .damped .ensures .1 .1 .1)
+    damped-kept (g .args .st) (at₁ c .loop .store) (g .args .order .now) (ready (at₁ c)) (g .args .diag .now) (g .pre .1 .0) (lambda₁ c) (g .args .radius) (load (g .args .st .n) (g .args .store .now)) (at₁ c .loop .inv .4) (store₁ c) (c .damped .ensures .1 .1 .1 .0)
 
 ready₁ : (c : tie.After-damped Inv-loop μ-loop) → Ready (c .before .before .before .before .before .before .before .before .before .before .before .before .before .args .st) (store₁ c) (c .before .before .before .before .before .before .before .before .before .before .before .before .before .args .order .now)
 ready₁ c = let g = c .before .before .before .before .before .before .before .before .before .before .before .before .before in ready-after (g .args .st) (at₁ c .loop .store) (g .args .order .now) (ready (at₁ c)) (store₁ c) (c .damped .kept .1 .0)
 
+-- ---- after its norm, which is finite: what is seen so far
+abbrev at₂ : tie.After-either Inv-loop μ-loop → tie.After-damped Inv-loop μ-loop
+at₂ c = c .before .before .before .before .before .before .before .before .before .before .before
+
+finite₂ : (c : tie.After-either Inv-loop μ-loop) → isFinite (at₂ c .damped .result .value) ≡ true
+finite₂ c = sym (c .before .before .before .before .is-finite2 .ensures) ∙ not-false _ (c .before .before .before .if2 .left)
+
+seen₁ : (c : tie.After-damped Inv-loop μ-loop) → c .damped .result .seen ≡ ranges (scaledStep (problem (at₁ c)) (step₁ c))
+seen₁ c = c .damped .ensures .1 .1 .1 .1 ∙ ap ranges (scaled₁ c)
+
+-- where it stops
+all₂ : (c : tie.After-either Inv-loop μ-loop) (r : Run) {all : Ranges} → measuredTrials (problem (at₁ (at₂ c))) r ≡ scaledStep (problem (at₁ (at₂ c))) (step₁ (at₂ c)) ∷ []
+    → either (at₁ (at₂ c) .loop .s .seen) (rangesOf (measuredTrials (problem (at₁ (at₂ c))) r)) ≡ all → c .either .result ≡ all
+all₂ c r m h = c .either .ensures ∙ seen-last (at₁ (at₂ c) .loop .s .seen) _ _ (seen₁ (at₂ c)) m h
+
 loop-holds : tie.Need-loop-holds Inv-loop μ-loop
-loop-holds c = (omega arith, refl, refl, refl, refl, refl)
+loop-holds c = (omega arith, refl, refl, refl, refl, (refl, refl))
 
 raised-of-requires : tie.Need-raised-of-requires Inv-loop μ-loop
 raised-of-requires c κs = search needs
@@ -100,6 +120,9 @@ damped-requires c κs =
 
 is-finite-requires-2 : tie.Need-is-finite-requires-2 Inv-loop μ-loop
 is-finite-requires-2 c κs = search needs
+
+either-requires : tie.Need-either-requires Inv-loop μ-loop
+either-requires c κs = search needs
 
 add-t : tie.Need-add-t Inv-loop μ-loop
 add-t c = search needs
@@ -121,9 +144,9 @@ told-requires-3 c κs = search needs
 
 correction-requires : tie.Need-correction-requires Inv-loop μ-loop
 correction-requires c κs =
-    let g = c .before .before .before .before .before .before .before .before .before .before .before .before .before .before .before .before .before .before .before .before .before .before .before .before .before .before .before .before .before in
-    let d = c .before .before .before .before .before .before .before .before .before .before .before .before .before .before .before .before in
-    let i = c .before .before .before .before .before .before .before .before .before .before .before .before .before .before .before .before .before .before .before .before .before .before .before .loop .inv in (
+    let g = c .before .before .before .before .before .before .before .before .before .before .before .before .before .before .before .before .before .before .before .before .before .before .before .before .before .before .before .before .before .before .before .before in
+    let d = c .before .before .before .before .before .before .before .before .before .before .before .before .before .before .before .before .before .before .before in
+    let i = c .before .before .before .before .before .before .before .before .before .before .before .before .before .before .before .before .before .before .before .before .before .before .before .before .before .before .loop .inv in (
       ready₁ d,
       (g .pre .1 .0, d .damped .kept .1 .1 .1 .1 .1 .0 ∙ i .2 ∙ g .pre .1 .1, d .damped .kept .1 .1 .1 .1 .1 .1 .0 ∙ i .3 ∙ g .pre .1 .2),
     )
@@ -135,23 +158,30 @@ next-of-requires : tie.Need-next-of-requires Inv-loop μ-loop
 next-of-requires c κs = search needs
 
 loop-less : tie.Need-loop-less Inv-loop μ-loop
-loop-less c = omega (arith, c .before .before .before .before .before .before .before .before .before .before .before .before .before .before .before .before .before .before .before .before .before .before .before .before .before .before .before .before .before .loop .inv .0, c .before .before .before .before .before .before .before .before .before .before .before .before .before .if3 .left)
+loop-less c = omega (arith, c .before .before .before .before .before .before .before .before .before .before .before .before .before .before .before .before .before .before .before .before .before .before .before .before .before .before .before .before .before .before .before .before .loop .inv .0, c .before .before .before .before .before .before .before .before .before .before .before .before .before .if3 .left)
 
 loop-again : tie.Need-loop-again Inv-loop μ-loop
 loop-again c =
-    let d = c .before .before .before .before .before .before .before .before .before .before .before .before .before .before .before .before .before .before .before .before .before .before in
-    let l = c .before .before .before .before .before .before .before .before .before .before .before .before .before .before .before .before .before .before .before .before .before .before .before .before .before .before .before .before .before in
-    let g = c .before .before .before .before .before .before .before .before .before .before .before .before .before .before .before .before .before .before .before .before .before .before .before .before .before .before .before .before .before .before .before .before .before .before .before in
+    let e = c .before .before .before .before .before .before .before .before .before .before .before .before .before .before in
+    let d = c .before .before .before .before .before .before .before .before .before .before .before .before .before .before .before .before .before .before .before .before .before .before .before .before .before in
+    let l = c .before .before .before .before .before .before .before .before .before .before .before .before .before .before .before .before .before .before .before .before .before .before .before .before .before .before .before .before .before .before .before .before in
+    let g = c .before .before .before .before .before .before .before .before .before .before .before .before .before .before .before .before .before .before .before .before .before .before .before .before .before .before .before .before .before .before .before .before .before .before .before .before .before .before in
     let k = c .before .before .before .before .before .correction in
+    let fewer : l .loop .t + 1 ≤ 9 = omega (arith, l .loop .inv .0, c .before .before .before .before .before .before .before .before .before .before .before .before .before .if3 .left) in
     let n : 9 - l .loop .t ≡ suc (9 - (l .loop .t + 1)) = omega (arith, l .loop .inv .0, c .before .before .before .before .before .before .before .before .before .before .before .before .before .if3 .left) in
-    let q = correction-asked (g .args .st) (l .loop .store) (g .args .order .now) (ready l) (g .args .diag .now) (g .pre .1 .0) (lambda₁ d) (g .args .radius) (load (g .args .st .n) (g .args .store .now)) (l .loop .inv .4) (store₁ d) (d .damped .ensures .1 .1 .1) _ _ (step₁ d) _ (d .damped .ensures .0) (scaled₁ d) (c .before .before .before .before .before .correction .ensures) in
-    let on = goes-on (problem l) (nextOf (l .loop .s)) (l .loop .t) unanswered (tried₁ d) (finite₁ d) (sym (c .before .before .before .before .before .before .before .before .before .before .before .before .before .before .before .is-finite2 .ensures) ∙ not-false _ (c .before .before .before .before .before .before .before .before .before .before .before .before .before .before .if2 .left)) (9 - (l .loop .t + 1)) refl (sym (c .before .before .before .before .before .before .before .before .before .before .before .before .is-within .ensures) ∙ c .before .before .before .before .before .before .before .before .before .before .before .if4 .left) (sym (c .before .before .before .before .before .before .before .before .before .before .is-falling .ensures) ∙ c .before .before .before .before .before .before .before .before .before .if5 .left) q (sym (c .before .before .is-finite3 .ensures) ∙ not-false _ (c .before .if6 .left)) in (
-      omega (arith, l .loop .inv .0, c .before .before .before .before .before .before .before .before .before .before .before .before .before .if3 .left),
+    let q = correction-asked (g .args .st) (l .loop .store) (g .args .order .now) (ready l) (g .args .diag .now) (g .pre .1 .0) (lambda₁ d) (g .args .radius) (load (g .args .st .n) (g .args .store .now)) (l .loop .inv .4) (store₁ d) (d .damped .ensures .1 .1 .1 .0) _ _ (step₁ d) _ (d .damped .ensures .0) (scaled₁ d) (k .ensures .0) (k .ensures .1) in
+    let on = goes-on (problem l) (nextOf (l .loop .s)) (l .loop .t) unanswered (tried₁ d) (finite₁ d) (finite₂ e) (9 - (l .loop .t + 1)) refl (sym (c .before .before .before .before .before .before .before .before .before .before .before .before .is-within .ensures) ∙ c .before .before .before .before .before .before .before .before .before .before .before .if4 .left) (sym (c .before .before .before .before .before .before .before .before .before .before .is-falling .ensures) ∙ c .before .before .before .before .before .before .before .before .before .if5 .left) (q .0) (sym (c .before .before .is-finite3 .ensures) ∙ not-false _ (c .before .if6 .left)) in
+    let mine₁ = mine (problem l) (nextOf (l .loop .s)) (l .loop .t) unanswered (lambda₁ d) (step₁ d) (d .damped .result .value) in
+    let next-is = next-same mine₁ (bare (l .loop .s) (lambda₁ d)) _ _ refl refl refl in (
+      fewer,
       d .damped .kept .1 .0 ∙ l .loop .inv .1,
       d .damped .kept .1 .1 .1 .1 .1 .0 ∙ l .loop .inv .2,
       k .kept .1 .1 .1 .1 .1 .1 .1 .1 .0 ∙ d .damped .kept .1 .1 .1 .1 .1 .1 .0 ∙ l .loop .inv .3,
       kept₁ d,
-      again (problem l) (l .loop .t) (9 - (l .loop .t + 1)) (nextOf (l .loop .s)) _ (mine (problem l) (nextOf (l .loop .s)) (l .loop .t) unanswered (lambda₁ d) (step₁ d) (d .damped .result)) (bare (l .loop .s) (lambda₁ d)) _ _ (told (problem l) (nextOf (l .loop .s)) (l .loop .t) unanswered (lambda₁ d) (step₁ d) (d .damped .result)) unanswered (rw n at (l .loop .inv .5)) on (next-same _ _ _ _ refl refl refl) (c .next-of .ensures),
+      (
+        again (problem l) (l .loop .t) (9 - (l .loop .t + 1)) (nextOf (l .loop .s)) _ mine₁ (bare (l .loop .s) (lambda₁ d)) _ _ (told (problem l) (nextOf (l .loop .s)) (l .loop .t) unanswered (lambda₁ d) (step₁ d) (d .damped .result .value)) unanswered (rw n at (l .loop .inv .5 .0)) (on .0) next-is (c .next-of .ensures .0),
+        seen-again (problem l) (9 - (l .loop .t + 1)) (nextOf (l .loop .s)) _ mine₁ (bare (l .loop .s) (lambda₁ d)) _ _ (l .loop .s .seen) _ _ (e .either .ensures) (c .next-of .ensures .1) (seen₁ d) (q .1) (on .1) next-is (c .next-of .ensures .0) (rw n at (l .loop .inv .5 .1)),
+      ),
     )
 
 same-length : tie.Need-same-length Inv-loop μ-loop
@@ -166,7 +196,7 @@ same-length-3 c = c .before .before .before .loop .inv .3
 returns : tie.Need-returns Inv-loop μ-loop
 returns c =
     let l = c .before .before .before in
-    (sym (at-lambda (problem l) (nextOf (l .loop .s)) (l .loop .t) unanswered (9 - l .loop .t) (c .before .before .raised-of .ensures) (sym (c .before .is-finite .ensures) ∙ not-true _ (c .if1 .taken))) ∙ l .loop .inv .5, l .loop .inv .4)
+    (sym (at-lambda (problem l) (nextOf (l .loop .s)) (l .loop .t) unanswered (9 - l .loop .t) (c .before .before .raised-of .ensures) (sym (c .before .is-finite .ensures) ∙ not-true _ (c .if1 .taken))) ∙ l .loop .inv .5 .0, (l .loop .inv .4, tt))
 
 same-length-4 : tie.Need-same-length-4 Inv-loop μ-loop
 same-length-4 c = c .before .before .before .before .before .before .before .before .damped .kept .1 .0 ∙ c .before .before .before .before .before .before .before .before .before .before .before .before .before .before .before .loop .inv .1
@@ -181,119 +211,88 @@ returns-2 : tie.Need-returns-2 Inv-loop μ-loop
 returns-2 c =
     let d = c .before .before .before .before .before .before .before .before in
     let l = c .before .before .before .before .before .before .before .before .before .before .before .before .before .before .before in
-    (sym (at-norm (problem l) (nextOf (l .loop .s)) (l .loop .t) unanswered (tried₁ d) (finite₁ d) (9 - l .loop .t) (sym (c .before .is-finite2 .ensures) ∙ not-true _ (c .if2 .taken))) ∙ l .loop .inv .5, kept₁ d)
+    (sym (at-norm (problem l) (nextOf (l .loop .s)) (l .loop .t) unanswered (tried₁ d) (finite₁ d) (9 - l .loop .t) (sym (c .before .is-finite2 .ensures) ∙ not-true _ (c .if2 .taken))) ∙ l .loop .inv .5 .0, (kept₁ d, tt))
 
 same-length-7 : tie.Need-same-length-7 Inv-loop μ-loop
-same-length-7 c = c .before .before .before .before .before .before .before .before .before .before .damped .kept .1 .0 ∙ c .before .before .before .before .before .before .before .before .before .before .before .before .before .before .before .before .before .loop .inv .1
+same-length-7 c = c .before .before .before .before .before .before .before .before .before .before .before .before .before .damped .kept .1 .0 ∙ c .before .before .before .before .before .before .before .before .before .before .before .before .before .before .before .before .before .before .before .before .loop .inv .1
 
 same-length-8 : tie.Need-same-length-8 Inv-loop μ-loop
-same-length-8 c = c .before .before .before .before .before .before .before .before .before .before .damped .kept .1 .1 .1 .1 .1 .0 ∙ c .before .before .before .before .before .before .before .before .before .before .before .before .before .before .before .before .before .loop .inv .2
+same-length-8 c = c .before .before .before .before .before .before .before .before .before .before .before .before .before .damped .kept .1 .1 .1 .1 .1 .0 ∙ c .before .before .before .before .before .before .before .before .before .before .before .before .before .before .before .before .before .before .before .before .loop .inv .2
 
 same-length-9 : tie.Need-same-length-9 Inv-loop μ-loop
-same-length-9 c = c .before .before .before .before .before .before .before .before .before .before .damped .kept .1 .1 .1 .1 .1 .1 .0 ∙ c .before .before .before .before .before .before .before .before .before .before .before .before .before .before .before .before .before .loop .inv .3
+same-length-9 c = c .before .before .before .before .before .before .before .before .before .before .before .before .before .damped .kept .1 .1 .1 .1 .1 .1 .0 ∙ c .before .before .before .before .before .before .before .before .before .before .before .before .before .before .before .before .before .before .before .before .loop .inv .3
 
 returns-3 : tie.Need-returns-3 Inv-loop μ-loop
 returns-3 c =
-    let d = c .before .before .before .before .before .before .before .before .before .before in
-    let l = c .before .before .before .before .before .before .before .before .before .before .before .before .before .before .before .before .before in
+    let e = c .before .before in
+    let d = c .before .before .before .before .before .before .before .before .before .before .before .before .before in
+    let l = c .before .before .before .before .before .before .before .before .before .before .before .before .before .before .before .before .before .before .before .before in
     let n : 9 - l .loop .t ≡ 0 = omega (arith, l .loop .inv .0, c .before .if3 .taken) in
-    (rw (c .told .ensures, add-one) (sym (at-ten (problem l) (nextOf (l .loop .s)) (l .loop .t) unanswered (tried₁ d) (finite₁ d) (sym (c .before .before .before .is-finite2 .ensures) ∙ not-false _ (c .before .before .if2 .left))) ∙ (rw n at (l .loop .inv .5))), kept₁ d)
+    let x = at-ten (problem l) (nextOf (l .loop .s)) (l .loop .t) unanswered (tried₁ d) (finite₁ d) (finite₂ e) in
+    (rw (c .told .ensures, add-one) (sym (x .0) ∙ (rw n at (l .loop .inv .5 .0))), (kept₁ d, rw (c .told .ensures) (all₂ e _ (x .1) (rw n at (l .loop .inv .5 .1)))))
 
 same-length-10 : tie.Need-same-length-10 Inv-loop μ-loop
-same-length-10 c = c .before .before .before .before .before .before .before .before .before .before .before .before .damped .kept .1 .0 ∙ c .before .before .before .before .before .before .before .before .before .before .before .before .before .before .before .before .before .before .before .loop .inv .1
+same-length-10 c = c .before .before .before .before .before .before .before .before .before .before .before .before .before .before .before .damped .kept .1 .0 ∙ c .before .before .before .before .before .before .before .before .before .before .before .before .before .before .before .before .before .before .before .before .before .before .loop .inv .1
 
 same-length-11 : tie.Need-same-length-11 Inv-loop μ-loop
-same-length-11 c = c .before .before .before .before .before .before .before .before .before .before .before .before .damped .kept .1 .1 .1 .1 .1 .0 ∙ c .before .before .before .before .before .before .before .before .before .before .before .before .before .before .before .before .before .before .before .loop .inv .2
+same-length-11 c = c .before .before .before .before .before .before .before .before .before .before .before .before .before .before .before .damped .kept .1 .1 .1 .1 .1 .0 ∙ c .before .before .before .before .before .before .before .before .before .before .before .before .before .before .before .before .before .before .before .before .before .before .loop .inv .2
 
 same-length-12 : tie.Need-same-length-12 Inv-loop μ-loop
-same-length-12 c = c .before .before .before .before .before .before .before .before .before .before .before .before .damped .kept .1 .1 .1 .1 .1 .1 .0 ∙ c .before .before .before .before .before .before .before .before .before .before .before .before .before .before .before .before .before .before .before .loop .inv .3
+same-length-12 c = c .before .before .before .before .before .before .before .before .before .before .before .before .before .before .before .damped .kept .1 .1 .1 .1 .1 .1 .0 ∙ c .before .before .before .before .before .before .before .before .before .before .before .before .before .before .before .before .before .before .before .before .before .before .loop .inv .3
 
 returns-4 : tie.Need-returns-4 Inv-loop μ-loop
 returns-4 c =
-    let d = c .before .before .before .before .before .before .before .before .before .before .before .before in
-    let l = c .before .before .before .before .before .before .before .before .before .before .before .before .before .before .before .before .before .before .before in
+    let e = c .before .before .before .before in
+    let d = c .before .before .before .before .before .before .before .before .before .before .before .before .before .before .before in
+    let l = c .before .before .before .before .before .before .before .before .before .before .before .before .before .before .before .before .before .before .before .before .before .before in
     let n : 9 - l .loop .t ≡ suc (9 - (l .loop .t + 1)) = omega (arith, l .loop .inv .0, c .before .before .before .if3 .left) in
-    (rw (c .told2 .ensures, add-one) (sym (at-within (problem l) (nextOf (l .loop .s)) (l .loop .t) unanswered (tried₁ d) (finite₁ d) (sym (c .before .before .before .before .before .is-finite2 .ensures) ∙ not-false _ (c .before .before .before .before .if2 .left)) (9 - (l .loop .t + 1)) refl (sym (c .before .before .is-within .ensures) ∙ c .before .if4 .taken)) ∙ (rw n at (l .loop .inv .5))), kept₁ d)
+    let x = at-within (problem l) (nextOf (l .loop .s)) (l .loop .t) unanswered (tried₁ d) (finite₁ d) (finite₂ e) (9 - (l .loop .t + 1)) refl (sym (c .before .before .is-within .ensures) ∙ c .before .if4 .taken) in
+    (rw (c .told2 .ensures, add-one) (sym (x .0) ∙ (rw n at (l .loop .inv .5 .0))), (kept₁ d, rw (c .told2 .ensures) (all₂ e _ (x .1) (rw n at (l .loop .inv .5 .1)))))
 
 same-length-13 : tie.Need-same-length-13 Inv-loop μ-loop
-same-length-13 c = c .before .before .before .before .before .before .before .before .before .before .before .before .before .before .damped .kept .1 .0 ∙ c .before .before .before .before .before .before .before .before .before .before .before .before .before .before .before .before .before .before .before .before .before .loop .inv .1
+same-length-13 c = c .before .before .before .before .before .before .before .before .before .before .before .before .before .before .before .before .before .damped .kept .1 .0 ∙ c .before .before .before .before .before .before .before .before .before .before .before .before .before .before .before .before .before .before .before .before .before .before .before .before .loop .inv .1
 
 same-length-14 : tie.Need-same-length-14 Inv-loop μ-loop
-same-length-14 c = c .before .before .before .before .before .before .before .before .before .before .before .before .before .before .damped .kept .1 .1 .1 .1 .1 .0 ∙ c .before .before .before .before .before .before .before .before .before .before .before .before .before .before .before .before .before .before .before .before .before .loop .inv .2
+same-length-14 c = c .before .before .before .before .before .before .before .before .before .before .before .before .before .before .before .before .before .damped .kept .1 .1 .1 .1 .1 .0 ∙ c .before .before .before .before .before .before .before .before .before .before .before .before .before .before .before .before .before .before .before .before .before .before .before .before .loop .inv .2
 
 same-length-15 : tie.Need-same-length-15 Inv-loop μ-loop
-same-length-15 c = c .before .before .before .before .before .before .before .before .before .before .before .before .before .before .damped .kept .1 .1 .1 .1 .1 .1 .0 ∙ c .before .before .before .before .before .before .before .before .before .before .before .before .before .before .before .before .before .before .before .before .before .loop .inv .3
+same-length-15 c = c .before .before .before .before .before .before .before .before .before .before .before .before .before .before .before .before .before .damped .kept .1 .1 .1 .1 .1 .1 .0 ∙ c .before .before .before .before .before .before .before .before .before .before .before .before .before .before .before .before .before .before .before .before .before .before .before .before .loop .inv .3
 
 returns-5 : tie.Need-returns-5 Inv-loop μ-loop
 returns-5 c =
-    let d = c .before .before .before .before .before .before .before .before .before .before .before .before .before .before in
-    let l = c .before .before .before .before .before .before .before .before .before .before .before .before .before .before .before .before .before .before .before .before .before in
+    let e = c .before .before .before .before .before .before in
+    let d = c .before .before .before .before .before .before .before .before .before .before .before .before .before .before .before .before .before in
+    let l = c .before .before .before .before .before .before .before .before .before .before .before .before .before .before .before .before .before .before .before .before .before .before .before .before in
     let n : 9 - l .loop .t ≡ suc (9 - (l .loop .t + 1)) = omega (arith, l .loop .inv .0, c .before .before .before .before .before .if3 .left) in
-    (rw (c .told3 .ensures, add-one) (sym (at-falling (problem l) (nextOf (l .loop .s)) (l .loop .t) unanswered (tried₁ d) (finite₁ d) (sym (c .before .before .before .before .before .before .before .is-finite2 .ensures) ∙ not-false _ (c .before .before .before .before .before .before .if2 .left)) (9 - (l .loop .t + 1)) refl (sym (c .before .before .before .before .is-within .ensures) ∙ c .before .before .before .if4 .left) (sym (c .before .before .is-falling .ensures) ∙ c .before .if5 .taken)) ∙ (rw n at (l .loop .inv .5))), kept₁ d)
+    let x = at-falling (problem l) (nextOf (l .loop .s)) (l .loop .t) unanswered (tried₁ d) (finite₁ d) (finite₂ e) (9 - (l .loop .t + 1)) refl (sym (c .before .before .before .before .is-within .ensures) ∙ c .before .before .before .if4 .left) (sym (c .before .before .is-falling .ensures) ∙ c .before .if5 .taken) in
+    (rw (c .told3 .ensures, add-one) (sym (x .0) ∙ (rw n at (l .loop .inv .5 .0))), (kept₁ d, rw (c .told3 .ensures) (all₂ e _ (x .1) (rw n at (l .loop .inv .5 .1)))))
 
 same-length-16 : tie.Need-same-length-16 Inv-loop μ-loop
-same-length-16 c = c .before .before .before .before .before .before .before .before .before .before .before .before .before .before .before .before .before .before .before .before .before .damped .kept .1 .0 ∙ c .before .before .before .before .before .before .before .before .before .before .before .before .before .before .before .before .before .before .before .before .before .before .before .before .before .before .before .before .loop .inv .1
+same-length-16 c = c .before .before .before .before .before .before .before .before .before .before .before .before .before .before .before .before .before .before .before .before .before .before .before .before .damped .kept .1 .0 ∙ c .before .before .before .before .before .before .before .before .before .before .before .before .before .before .before .before .before .before .before .before .before .before .before .before .before .before .before .before .before .before .before .loop .inv .1
 
 same-length-17 : tie.Need-same-length-17 Inv-loop μ-loop
-same-length-17 c = c .before .before .before .before .before .before .before .before .before .before .before .before .before .before .before .before .before .before .before .before .before .damped .kept .1 .1 .1 .1 .1 .0 ∙ c .before .before .before .before .before .before .before .before .before .before .before .before .before .before .before .before .before .before .before .before .before .before .before .before .before .before .before .before .loop .inv .2
+same-length-17 c = c .before .before .before .before .before .before .before .before .before .before .before .before .before .before .before .before .before .before .before .before .before .before .before .before .damped .kept .1 .1 .1 .1 .1 .0 ∙ c .before .before .before .before .before .before .before .before .before .before .before .before .before .before .before .before .before .before .before .before .before .before .before .before .before .before .before .before .before .before .before .loop .inv .2
 
 same-length-18 : tie.Need-same-length-18 Inv-loop μ-loop
-same-length-18 c = c .before .before .before .before .correction .kept .1 .1 .1 .1 .1 .1 .1 .1 .0 ∙ c .before .before .before .before .before .before .before .before .before .before .before .before .before .before .before .before .before .before .before .before .before .damped .kept .1 .1 .1 .1 .1 .1 .0 ∙ c .before .before .before .before .before .before .before .before .before .before .before .before .before .before .before .before .before .before .before .before .before .before .before .before .before .before .before .before .loop .inv .3
+same-length-18 c = c .before .before .before .before .correction .kept .1 .1 .1 .1 .1 .1 .1 .1 .0 ∙ c .before .before .before .before .before .before .before .before .before .before .before .before .before .before .before .before .before .before .before .before .before .before .before .before .damped .kept .1 .1 .1 .1 .1 .1 .0 ∙ c .before .before .before .before .before .before .before .before .before .before .before .before .before .before .before .before .before .before .before .before .before .before .before .before .before .before .before .before .before .before .before .loop .inv .3
 
 returns-6 : tie.Need-returns-6 Inv-loop μ-loop
 returns-6 c =
-    let d = c .before .before .before .before .before .before .before .before .before .before .before .before .before .before .before .before .before .before .before .before .before in
-    let l = c .before .before .before .before .before .before .before .before .before .before .before .before .before .before .before .before .before .before .before .before .before .before .before .before .before .before .before .before in
-    let g = c .before .before .before .before .before .before .before .before .before .before .before .before .before .before .before .before .before .before .before .before .before .before .before .before .before .before .before .before .before .before .before .before .before .before in
+    let d = c .before .before .before .before .before .before .before .before .before .before .before .before .before .before .before .before .before .before .before .before .before .before .before .before in
+    let l = c .before .before .before .before .before .before .before .before .before .before .before .before .before .before .before .before .before .before .before .before .before .before .before .before .before .before .before .before .before .before .before in
+    let g = c .before .before .before .before .before .before .before .before .before .before .before .before .before .before .before .before .before .before .before .before .before .before .before .before .before .before .before .before .before .before .before .before .before .before .before .before .before in
+    let k = c .before .before .before .before .correction in
     let n : 9 - l .loop .t ≡ suc (9 - (l .loop .t + 1)) = omega (arith, l .loop .inv .0, c .before .before .before .before .before .before .before .before .before .before .before .before .if3 .left) in
-    let q = correction-asked (g .args .st) (l .loop .store) (g .args .order .now) (ready l) (g .args .diag .now) (g .pre .1 .0) (lambda₁ d) (g .args .radius) (load (g .args .st .n) (g .args .store .now)) (l .loop .inv .4) (store₁ d) (d .damped .ensures .1 .1 .1) _ _ (step₁ d) _ (d .damped .ensures .0) (scaled₁ d) (c .before .before .before .before .correction .ensures) in (
-      sym (at-correction (problem l) (nextOf (l .loop .s)) (l .loop .t) unanswered (tried₁ d) (finite₁ d) (sym (c .before .before .before .before .before .before .before .before .before .before .before .before .before .before .is-finite2 .ensures) ∙ not-false _ (c .before .before .before .before .before .before .before .before .before .before .before .before .before .if2 .left)) (9 - (l .loop .t + 1)) refl (sym (c .before .before .before .before .before .before .before .before .before .before .before .is-within .ensures) ∙ c .before .before .before .before .before .before .before .before .before .before .if4 .left) (sym (c .before .before .before .before .before .before .before .before .before .is-falling .ensures) ∙ c .before .before .before .before .before .before .before .before .if5 .left) q (sym (c .before .is-finite3 .ensures) ∙ not-true _ (c .if6 .taken))) ∙ (rw n at (l .loop .inv .5)),
-      kept₁ d,
+    let q = correction-asked (g .args .st) (l .loop .store) (g .args .order .now) (ready l) (g .args .diag .now) (g .pre .1 .0) (lambda₁ d) (g .args .radius) (load (g .args .st .n) (g .args .store .now)) (l .loop .inv .4) (store₁ d) (d .damped .ensures .1 .1 .1 .0) _ _ (step₁ d) _ (d .damped .ensures .0) (scaled₁ d) (k .ensures .0) (k .ensures .1) in (
+      sym (at-correction (problem l) (nextOf (l .loop .s)) (l .loop .t) unanswered (tried₁ d) (finite₁ d) (finite₂ (c .before .before .before .before .before .before .before .before .before .before .before .before .before)) (9 - (l .loop .t + 1)) refl (sym (c .before .before .before .before .before .before .before .before .before .before .before .is-within .ensures) ∙ c .before .before .before .before .before .before .before .before .before .before .if4 .left) (sym (c .before .before .before .before .before .before .before .before .before .is-falling .ensures) ∙ c .before .before .before .before .before .before .before .before .if5 .left) (q .0) (sym (c .before .is-finite3 .ensures) ∙ not-true _ (c .if6 .taken))) ∙ (rw n at (l .loop .inv .5 .0)),
+      (kept₁ d, tt),
     )
 
 pub trials-spec : {M : Type 1} → statement M
 trials-spec =
-    tie.close
-    (tie.spec
-    Inv-loop
-    μ-loop
-    loop-holds
-    raised-of-requires
-    is-finite-requires
-    damped-requires
-    is-finite-requires-2
-    add-t
-    told-requires
-    is-within-requires
-    told-requires-2
-    is-falling-requires
-    told-requires-3
-    correction-requires
-    is-finite-requires-3
-    next-of-requires
-    loop-less
-    loop-again
-    same-length
-    same-length-2
-    same-length-3
-    returns
-    same-length-4
-    same-length-5
-    same-length-6
-    returns-2
-    same-length-7
-    same-length-8
-    same-length-9
-    returns-3
-    same-length-10
-    same-length-11
-    same-length-12
-    returns-4
-    same-length-13
-    same-length-14
-    same-length-15
-    returns-5
-    same-length-16
-    same-length-17
-    same-length-18
-    returns-6)
+    tie.close (tie.spec
+    Inv-loop μ-loop loop-holds raised-of-requires is-finite-requires damped-requires is-finite-requires-2 either-requires add-t told-requires
+    is-within-requires told-requires-2 is-falling-requires told-requires-3 correction-requires is-finite-requires-3 next-of-requires loop-less
+    loop-again same-length same-length-2 same-length-3 returns same-length-4 same-length-5 same-length-6 returns-2 same-length-7 same-length-8
+    same-length-9 returns-3 same-length-10 same-length-11 same-length-12 returns-4 same-length-13 same-length-14 same-length-15 returns-5
+    same-length-16 same-length-17 same-length-18 returns-6)

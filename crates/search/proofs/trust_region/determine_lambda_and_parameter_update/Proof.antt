@@ -3,7 +3,9 @@ use mathlib.Core.Path.{sym, _∙_}
 use borrow.Author.Needs.{needs}
 use lib.ListN.{take}
 use lib.Seq.{length-take-le}
+use Rattle.leaves.specs.Norm.{rangesOf}
 use Rattle.factor.specs.Room.{load, lay, emptied}
+use Rattle.search.specs.Measured.{measuredBy}
 use Rattle.search.specs.Search.{problemOf, answerOf}
 use Rattle.leaves.proofs.Overs.{lent-fits, lent-long}
 use Rattle.search.proofs.Calling.{call-is-refused, few, diag-long, out-long, ready, lent-back, call-is-run}
@@ -97,7 +99,8 @@ returns-2 c =
     let e = c .before .before .before .before .before .before .before .before .before .before .before .before .before .before .before .check-search .ensures in
     let z = c .before .before .before .before .before .before .before .before .before .before .before .before .before .before .if1 .left in
     let r = c .before .before .before .before .before .before .run-into in
-    call-is-run (g .st) (g .store .now) (g .order .now) (g .diag .now) (g .radius) (g .lambda) (g .out .now) e z (lent-back (g .st) (g .st .n) (lay (emptied (load (g .st .n) (g .store .now)))) (g .out .now) (answerOf (problemOf (g .st) (g .order .now) (take (g .st .n) (g .diag .now)) (g .radius) (load (g .st .n) (g .store .now))) (g .lambda)) (r .kept .1 .1 .1 .1 .1 .1 .1 .1 .0 ∙ length-take-le (g .st .n) (g .out .now) (out-long (g .st) (g .store .now) (g .order .now) (g .diag .now) (g .radius) (g .lambda) (g .out .now) e z)) (r .ensures))
+    let asked = problemOf (g .st) (g .order .now) (take (g .st .n) (g .diag .now)) (g .radius) (load (g .st .n) (g .store .now)) in
+    call-is-run (g .st) (g .store .now) (g .order .now) (g .diag .now) (g .radius) (g .lambda) (g .out .now) e z (lent-back (g .st) (g .st .n) (lay (emptied (load (g .st .n) (g .store .now)))) (g .out .now) (rangesOf (measuredBy asked (g .lambda))) (answerOf asked (g .lambda)) (r .kept .1 .1 .1 .1 .1 .1 .1 .1 .0 ∙ length-take-le (g .st .n) (g .out .now) (out-long (g .st) (g .store .now) (g .order .now) (g .diag .now) (g .radius) (g .lambda) (g .out .now) e z)) (r .ensures))
 
 pub determine-lambda-and-parameter-update-spec : {M : Type 1} → statement M
 determine-lambda-and-parameter-update-spec =

@@ -3,11 +3,11 @@ use mathlib.Core.Path.{refl, sym, ap, _∙_}
 use borrow.Author.Needs.{needs}
 use borrow.Author.Tests.{not-true, not-false}
 use lib.Ieee.{ofBits}
-use Rattle.leaves.specs.Norm.{norm}
+use Rattle.leaves.specs.Norm.{norm, ranges}
 use Rattle.leaves.specs.Number.{plusZero}
 use Rattle.factor.specs.Room.{load}
 use Rattle.search.specs.Search.{problemOf}
-use Rattle.search.proofs.trust_region.Answering.{no-norm, taken, not-taken, undamped-asked, scaled-asked, band-test}
+use Rattle.search.proofs.trust_region.Answering.{no-norm, taken, taken-seen, not-taken, not-taken-seen, undamped-asked, scaled-asked, band-test}
 use Rattle.search.proofs.trust_region.run.Statement.{statement}
 use Rattle.search.proofs.trust_region.run.Tie as tie
 
@@ -34,9 +34,9 @@ returns c =
     let w = u .last .1 .1 .1 .1 .1 .0 in
     let scaled = scaled-asked (g .args .st) (g .args .order .now) (g .args .diag .now) plusZero (g .args .radius) room w (u .ensures .1 .0) in
     let asked = problemOf (g .args .st) (g .args .order .now) (g .args .diag .now) (g .args .radius) room in
-    let step = undamped-asked (g .args .st) (g .args .order .now) (g .args .diag .now) plusZero (g .args .radius) room w (u .ensures .1 .1) in
+    let step = undamped-asked (g .args .st) (g .args .order .now) (g .args .diag .now) plusZero (g .args .radius) room w (u .ensures .1 .1 .0) in
     let nrm = u .ensures .0 ∙ ap norm scaled in
-    (no-norm asked (g .args .lambda) step nrm (sym (c .before .is-finite .ensures) ∙ not-true _ (c .if1 .taken)), refl)
+    (no-norm asked (g .args .lambda) step nrm (sym (c .before .is-finite .ensures) ∙ not-true _ (c .if1 .taken)), (refl, tt))
 
 band-of-requires : tie.Need-band-of-requires
 band-of-requires c κs = search needs
@@ -53,15 +53,17 @@ same-length-6 c = search needs
 returns-2 : tie.Need-returns-2
 unfolding ofBits
 returns-2 c =
-    let g = c .before .before .before .before .before .before .before .before .before .before .before .before .before .before .before .before .before in
-    let u = c .before .before .before .before .before .before .before .before .undamped in
+    let g = c .before .before .before .before .before .before .before .before .before .before .before .before .before .before .before .before .before .before in
+    let u = c .before .before .before .before .before .before .before .before .before .undamped in
     let room = load (g .args .st .n) (g .args .store .now) in
     let w = u .last .1 .1 .1 .1 .1 .0 in
     let scaled = scaled-asked (g .args .st) (g .args .order .now) (g .args .diag .now) plusZero (g .args .radius) room w (u .ensures .1 .0) in
     let asked = problemOf (g .args .st) (g .args .order .now) (g .args .diag .now) (g .args .radius) room in
-    let step = undamped-asked (g .args .st) (g .args .order .now) (g .args .diag .now) plusZero (g .args .radius) room w (u .ensures .1 .1) in
+    let step = undamped-asked (g .args .st) (g .args .order .now) (g .args .diag .now) plusZero (g .args .radius) room w (u .ensures .1 .1 .0) in
     let nrm = u .ensures .0 ∙ ap norm scaled in
-    (taken asked (g .args .lambda) step nrm (sym (c .before .before .before .is-finite .ensures) ∙ not-false _ (c .before .before .if1 .left)) (band-test _ _ (c .before .band-of .ensures) (c .if2 .taken)), refl)
+    let finite = sym (c .before .before .before .before .is-finite .ensures) ∙ not-false _ (c .before .before .before .if1 .left) in
+    let test = band-test _ _ (c .before .before .band-of .ensures) (c .before .if2 .taken) in
+    (taken asked (g .args .lambda) step nrm finite test, (refl, taken-seen asked (g .args .lambda) step nrm finite test (u .ensures .1 .1 .1 ∙ ap ranges scaled)))
 
 bounded-requires : tie.Need-bounded-requires
 bounded-requires c κs =
@@ -89,10 +91,12 @@ returns-3 c =
     let w = u .last .1 .1 .1 .1 .1 .0 in
     let scaled = scaled-asked (g .args .st) (g .args .order .now) (g .args .diag .now) plusZero (g .args .radius) room w (u .ensures .1 .0) in
     let asked = problemOf (g .args .st) (g .args .order .now) (g .args .diag .now) (g .args .radius) room in
-    let step = undamped-asked (g .args .st) (g .args .order .now) (g .args .diag .now) plusZero (g .args .radius) room w (u .ensures .1 .1) in
+    let step = undamped-asked (g .args .st) (g .args .order .now) (g .args .diag .now) plusZero (g .args .radius) room w (u .ensures .1 .1 .0) in
     let nrm = u .ensures .0 ∙ ap norm scaled in
-    let k = c .before .before .before .before .before .before .bounded .ensures in
-    (not-taken asked (g .args .lambda) step nrm (sym (c .before .before .before .before .before .before .before .before .before .before .before .before .before .is-finite .ensures) ∙ not-false _ (c .before .before .before .before .before .before .before .before .before .before .before .before .if1 .left)) (band-test _ _ (c .before .before .before .before .before .before .before .before .before .before .before .band-of .ensures) (c .before .before .before .before .before .before .before .before .before .before .if2 .left)) (k .0), k .1)
+    let k = c .before .before .before .before .before .before .bounded in
+    let finite = sym (c .before .before .before .before .before .before .before .before .before .before .before .before .before .is-finite .ensures) ∙ not-false _ (c .before .before .before .before .before .before .before .before .before .before .before .before .if1 .left) in
+    let test = band-test _ _ (c .before .before .before .before .before .before .before .before .before .before .before .band-of .ensures) (c .before .before .before .before .before .before .before .before .before .before .if2 .left) in
+    (not-taken asked (g .args .lambda) step nrm finite test (k .ensures .0), (k .ensures .1 .0, not-taken-seen asked (g .args .lambda) step nrm finite test (k .result) (u .ensures .1 .1 .1 ∙ ap ranges scaled) (k .ensures .1 .1)))
 
 pub run-spec : {M : Type 1} → statement M
 run-spec =

@@ -1,10 +1,12 @@
 -- `search::trust_region::run_into` meets its contract. Assumes nothing.
-use mathlib.Core.Path.{sym, ap, _∙_}
+use mathlib.Core.Path.{sym, ap, _∙_, subst}
 use borrow.Author.Needs.{needs}
+use Rattle.leaves.specs.Norm.{rangesOf}
 use Rattle.factor.specs.Room.{load, lay}
 use Rattle.search.specs.Problem.{placed}
+use Rattle.search.specs.Measured.{measuredBy}
 use Rattle.search.specs.Search.{problemOf}
-use Rattle.search.specs.inner.Read.{withStep}
+use Rattle.search.specs.inner.Read.{withStep, Saw}
 use Rattle.search.specs.declared.trust_region.Found.{Found}
 use Rattle.search.proofs.Workings.{ready-after}
 use Rattle.search.proofs.Calling.{placing, placed-long, step-placed, step-written, not-written}
@@ -52,9 +54,12 @@ returns c =
     let k = c .before .before .before .before .before .before .before .before .before .before .before .before .before .before .before .before .before .before .run in
     let room = load (g .args .st .n) (g .args .store .now) in
     let w = k .last .1 .1 .1 .1 .1 .1 .1 .0 in
-    let step = placed (problemOf (g .args .st) (g .args .order .now) (g .args .diag .now) (g .args .radius) room) w in
+    let asked = problemOf (g .args .st) (g .args .order .now) (g .args .diag .now) (g .args .radius) room in
+    let step = placed asked w in
     let l = k .kept .1 .1 .1 .1 .1 .1 .1 .0 ∙ g .pre .1 .0 .2 in
-    step-written (g .args .st) _ (g .args .out .now) _ step (sym (ap (λ (x : Found). withStep x step) (c .before .before .before .before .before .before .found .given .1)) ∙ k .ensures .0) (c .before .before .before .before .before .before .before .before .before .before .empty .ensures ∙ ap lay (k .ensures .1)) (step-placed (g .args .st) (g .args .store .now) (g .args .order .now) (g .pre .0) (g .args .diag .now) (g .args .radius) room w l (g .args .out .now) (g .pre .1 .1) (c .before .before .place .ensures)) (placed-long (g .args .st) (g .args .store .now) (g .args .order .now) (g .pre .0) (g .args .diag .now) (g .args .radius) room w l ∙ sym (g .pre .1 .1))
+    let all = rangesOf (measuredBy asked (g .args .lambda)) in
+    let saw = subst (λ (x : Found). Saw x all) (c .before .before .before .before .before .before .found .given .1) (k .ensures .1 .1) in
+    step-written (g .args .st) _ (g .args .out .now) _ step (sym (ap (λ (x : Found). withStep x step) (c .before .before .before .before .before .before .found .given .1)) ∙ k .ensures .0) saw (c .before .before .before .before .before .before .before .before .before .before .empty .ensures ∙ ap lay (k .ensures .1 .0)) (step-placed (g .args .st) (g .args .store .now) (g .args .order .now) (g .pre .0) (g .args .diag .now) (g .args .radius) room w l (g .args .out .now) (g .pre .1 .1) (c .before .before .place .ensures)) (placed-long (g .args .st) (g .args .store .now) (g .args .order .now) (g .pre .0) (g .args .diag .now) (g .args .radius) room w l ∙ sym (g .pre .1 .1))
 
 same-length-5 : tie.Need-same-length-5
 same-length-5 c = search needs
@@ -71,8 +76,9 @@ returns-2 c =
     let k = c .before .before .before .before .before .before .before .before .before .before .before .before .before .run in
     let room = load (g .args .st .n) (g .args .store .now) in
     let w = k .last .1 .1 .1 .1 .1 .1 .1 .0 in
-    let step = placed (problemOf (g .args .st) (g .args .order .now) (g .args .diag .now) (g .args .radius) room) w in
-    not-written (g .args .st) _ (g .args .out .now) _ (sym (ap (λ (x : Found). withStep x step) (c .before .found2 .given .1)) ∙ k .ensures .0) (c .before .before .before .before .before .empty .ensures ∙ ap lay (k .ensures .1))
+    let asked = problemOf (g .args .st) (g .args .order .now) (g .args .diag .now) (g .args .radius) room in
+    let step = placed asked w in
+    not-written (g .args .st) _ (g .args .out .now) (rangesOf (measuredBy asked (g .args .lambda))) _ (sym (ap (λ (x : Found). withStep x step) (c .before .found2 .given .1)) ∙ k .ensures .0) (c .before .before .before .before .before .empty .ensures ∙ ap lay (k .ensures .1 .0))
 
 pub run-into-spec : {M : Type 1} → statement M
 run-into-spec =

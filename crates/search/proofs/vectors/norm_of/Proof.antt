@@ -2,7 +2,7 @@
 use mathlib.Core.Path.{ap, _∙_}
 use borrow.Author.Needs.{needs}
 use Rattle.leaves.specs.declared.norm.Normed.{Normed}
-use Rattle.leaves.proofs.Norms.{norm-carried}
+use Rattle.leaves.proofs.Norms.{norm-carried, seen-carried}
 use Rattle.search.proofs.vectors.norm_of.Statement.{statement}
 use Rattle.search.proofs.vectors.norm_of.Tie as tie
 
@@ -10,7 +10,10 @@ enorm-requires : tie.Need-enorm-requires
 enorm-requires c κs = search needs
 
 returns : tie.Need-returns
-returns c = ap (λ (s : Normed). s .value) (c .enorm .ensures) ∙ norm-carried (c .before .before .args .v .now) (c .before .before .pre)
+returns c =
+    let g = c .before .before .before in
+    let e = c .before .enorm .ensures in
+    (ap (λ (s : Normed). s .value) e ∙ norm-carried (g .args .v .now) (g .pre), ap (λ (s : Normed). s .seen) e ∙ seen-carried (g .args .v .now) (g .pre))
 
 pub norm-of-spec : {M : Type 1} → statement M
 norm-of-spec = tie.close (tie.spec enorm-requires returns)

@@ -51,8 +51,8 @@ part-task-end c = search needs
 task-requires : tie.Need-task-requires
 task-requires c κs = rw (part-to-end (c .before .before .before .before .before .before .before .before .before .before .before .before .before .before .before .before .before .before .before .before .before .before .before .before .args .xs .now)) (rest-long (c .before .before .before .before .before .before .before .before .before .before .before .before .before .before .before .before .before .before .before .before .before .before .before .before .args .h) (c .before .before .before .before .before .before .before .before .before .before .before .before .before .before .before .before .before .before .before .before .before .before .before .before .args .xs .now) (c .before .before .before .before .before .before .before .before .before .before .before .before .before .before .before .before .before .before .before .before .before .before .before .before .pre .0) (c .before .before .before .before .before .before .before .before .before .before .before .before .before .before .before .before .before .before .before .before .before .before .before .before .pre .1))
 
-enum-known-done : tie.Need-enum-known-done
-enum-known-done c = search needs
+enum-known-told : tie.Need-enum-known-told
+enum-known-told c = search needs
 
 same-length : tie.Need-same-length
 same-length c = search needs
@@ -83,7 +83,7 @@ same-length-7 c = search needs
 returns-2 : tie.Need-returns-2
 returns-2 c =
     let g = c .before .before .before .before .before .before .before .before .before .before .before .before .before .before .before .before .before .before .before .before .before in
-    work-refused (g .args .h) (g .args .xs .now) (g .args .store .now) (g .args .order .now) (g .args .bench .now) (g .args .step .now) (g .pre .0) (g .pre .1) (c .before .before .before .before .before .before .before .before .before .before .pivoted-qr .ensures) (c .before .done .given .1)
+    work-refused (g .args .h) (g .args .xs .now) (g .args .store .now) (g .args .order .now) (g .args .bench .now) (g .args .step .now) (g .pre .0) (g .pre .1) (c .before .before .before .before .before .before .before .before .before .before .pivoted-qr .ensures) (c .before .told .given .1)
 
 pub work-in-spec : {M : Type 1} → statement M
 work-in-spec =
@@ -103,7 +103,7 @@ work-in-spec =
     part-task-start
     part-task-end
     task-requires
-    enum-known-done
+    enum-known-told
     same-length
     same-length-2
     same-length-3
