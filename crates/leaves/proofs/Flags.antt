@@ -9,12 +9,12 @@ use native.Mathlib.Omega.{arith}
 use lib.Dec.{T, ltb, eqb}
 use lib.IntN.{ℤ, pos}
 use lib.ListN.{length}
-use lib.Ieee.{Float, nan, inf, fin, binary64, up, down, below, level, add, mul, div, lt, le, eq, ne, sum, round}
+use lib.Ieee.{Float, nan, inf, fin, binary64, up, down, add, mul, div, lt, le, eq, ne, sum, round}
 use lib.Ieee.Fits.{up-pos, down-pos}
 use lib.Ieee.Order.{round-mono}
-use borrow.Author.Tests.{lt-ltb, le-ltb, eq-eqb, ne-eqb, ltb-true, eqb-true}
+use borrow.Author.Tests.{lt-ltb, le-ltb, ne-eqb, ltb-true, eqb-true}
 use Rattle.leaves.specs.Number.{plusZero, one, absOf, squareOf}
-use Rattle.leaves.specs.Norm.{rdwarf, agiant, sums, middle, small, large, add-in, step, accumulate, none, isSmall, isLarge, any, flags, ranges}
+use Rattle.leaves.specs.Norm.{rdwarf, agiant, middle, small, large, add-in, step, accumulate, none, isSmall, isLarge, any, flags, ranges}
 use Rattle.leaves.specs.inner.Flags.{flagsOf}
 use Rattle.leaves.specs.declared.norm.Sums.{Sums}
 use Rattle.leaves.proofs.Signs.{zero-equal, not-zero}

@@ -12,16 +12,16 @@ use borrow.Author.Tests.{lt-ltb, ne-eqb, ltb-true, ltb-false}
 use lib.IntN.{ℤ, pos, negsuc}
 use lib.ListN.{length}
 use lib.Ieee.{Float, nan, inf, fin, binary64, fits, up, down, add, mul, div, lt, le, eq, ne, sum, odd, units, round}
-use lib.Ieee.Exact.{HasValue, round-exact}
+use lib.Ieee.Exact.{round-exact}
 use lib.Ieee.Fits.{and-l, and-r, up-pos, down-pos, round-is, round-fits, add-fits}
 use Rattle.leaves.specs.Number.{plusZero, one, absOf, squareOf}
-use Rattle.leaves.specs.Norm.{agiant, sums, middle, small, large, step, accumulate, none, finishLarge, finishMiddle, finishSmall, finish, norm, any, isSmall, isLarge, neither, ranges}
+use Rattle.leaves.specs.Norm.{agiant, sums, middle, small, large, step, accumulate, none, finishMiddle, finishSmall, finish, norm, neither, ranges}
 use Rattle.leaves.specs.Root.{rootS}
 use Rattle.leaves.specs.declared.norm.Sums.{Sums}
 use Rattle.leaves.specs.declared.norm.Ranges.{Ranges}
 use Rattle.leaves.proofs.Signs.{not-zero}
 use Rattle.leaves.proofs.Normed.{arms, in-one, round-zero}
-use Rattle.leaves.proofs.Flags.{Plain, plain-sums}
+use Rattle.leaves.proofs.Flags.{plain-sums}
 use Rattle.leaves.proofs.root.Same.{same-value}
 
 -- ---- s2 is a number that binary64 holds, not below zero
