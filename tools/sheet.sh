@@ -1,56 +1,30 @@
 # shellcheck shell=bash
 # What every command on job sheets shares: `fitstep` and those to come. Sourced, not run; a command sets `me`, its name, first.
 # Exit status of such a command: 0 answered, 1 refused, 2 trouble, which is everything else. Standard output has the program's lines alone.
-repo=$(cd "$(dirname "${BASH_SOURCE[0]}")/.." && pwd)
+. "$(dirname "${BASH_SOURCE[0]}")/common.sh"
+. "$(dirname "${BASH_SOURCE[0]}")/proved.sh"
 longest=17555               # bytes of the longest sheet: m 128, n 16, call 1
 most=$((longest + 1))       # what the programs read: a longer input has the lines of its first $most bytes (`overlong` in crates/sheet/proofs)
 limit=$((64 * 1024 * 1024)) # more than this is not looked through: it is no sheet, and a pipe may never end
 hex='' decimals=''          # the options -x and -d
 note=''                     # what is to be said of this sheet should it be refused
 
-trouble() {
-    printf '%s: %s\n' "$me" "$*" >&2
-    exit 2
-}
-
-# The lines of the command's own head, up to the first that is no comment.
-usage() {
-    awk 'NR > 1 && !/^#/ { exit } NR > 1 { sub(/^# ?/, ""); print }' "$0"
-}
-
 # Reads the options and leaves in `words` what is behind them. COUNT words must be there.
 options() { # COUNT WORDS..
     local count=$1 option
     shift
+    help_asked "$@"
     while getopts :dxh option; do
         case $option in
         d) decimals=yes ;;
         x) hex=yes ;;
         h) usage; exit 0 ;;
-        *) usage >&2; exit 2 ;;
+        *) wrong ;;
         esac
     done
     shift $((OPTIND - 1))
     words=("$@")
-    [ $# = "$count" ] || { usage >&2; exit 2; }
-}
-
-# A folder for what is read and printed. A command that fails without a word of its own is trouble too, and no refusal: never status 1.
-begin() {
-    set -E
-    trap 'exit 2' ERR
-    room=$(mktemp -d)
-    trap 'rm -rf "$room"' EXIT
-}
-
-# Where the kit is, in `kit`, and its tools for this processor, in `tools`.
-find_kit() {
-    command -v rt >/dev/null ||
-        trouble "rt, the command of the Rattle kit, is not in PATH: install the kit, or put its bin into PATH"
-    kit=${RATTLE_HOME:-$(cd "$(dirname "$(readlink -f "$(command -v rt)")")/.." && pwd -P)}
-    tools=$kit/on/$(uname -m)/toolchain
-    [ -f "$tools/lib/ld-linux-x86-64.so.2" ] ||
-        trouble "$(command -v rt) is no command of a Rattle kit, or its kit has nothing for this processor, $(uname -m): see PATH and RATTLE_HOME"
+    [ $# = "$count" ] || wrong
 }
 
 # ---- a sheet
@@ -164,39 +138,6 @@ sheet() { # WORD FILE
 
 # ---- the program
 
-# Tells of each crate that is proved now. What has not changed comes at once and is not told; two seconds without a line are a proof.
-progress() { # MINUTES
-    local line='' part='' state told=''
-    while :; do
-        state=0
-        IFS= read -r -t 2 part || state=$?
-        line+=$part
-        if [ "$state" = 0 ] && [[ ! $line =~ ^rt:\ [a-z_0-9]+\ proved\ \([0-9]+\ s\)$ ]]; then
-            line=''
-            continue
-        fi
-        [ "$state" = 0 ] || [ "$state" -gt 128 ] || break
-        [ -n "$told" ] ||
-            echo "$me: proving and building the program first, once: about $1 minutes on two processors if nothing is proved yet. By crate:" >&2
-        told=yes
-        if [ "$state" = 0 ]; then
-            echo "$me: ${line#rt: }" >&2
-            line=''
-        fi
-    done
-}
-
-# Proves and builds a program, where something has changed: a program of older sources is never run.
-build() { # PROGRAM MINUTES
-    local log=$repo/target/log/$me.log status=0
-    find_kit
-    { mkdir -p "$repo/target/log" && : >"$log"; } || trouble "cannot write $log"
-    (cd "$repo" && rt check "$1") </dev/null 2>&1 | tee "$log" | progress "$2" || status=${PIPESTATUS[0]}
-    [ "$status" = 0 ] && return
-    tail -n 5 "$log" >&2
-    trouble "the program is not built: 'rt check $1' ended with status $status. All it said is in $log"
-}
-
 # What the refusals mean and what to do: README.md's table, word for word. A sheet is never refused 4 or 5.
 meaning() { # NUMBER
     case $1 in
@@ -207,7 +148,7 @@ meaning() { # NUMBER
     3) echo "the sheet's length is not the one that call, m and n ask for"
         echo "count the doubles; a sheet cut in transmission, or a missing lambda or step bound, shows here" ;;
     6) echo "a number is NaN or infinite"
-        echo "look at the model: a division by zero, an overflow, or a sensor's gap passed on as NaN; also at the byte order of the doubles" ;;
+        echo "look at the model: a division by zero, an overflow, or a sensor's gap passed on as NaN" ;;
     7) echo "radius or step bound is not above zero, lambda is below zero, or a scaling entry is zero"
         echo "set the radius or the step bound above zero and lambda to 0; replace a zero scaling entry by 1" ;;
     8) echo "the working leaves the range of doubles: in the factoring, the scaling (a radius rounded to zero too) or the search"

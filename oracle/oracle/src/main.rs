@@ -18,9 +18,17 @@ const USAGE: &str = "usage:
   oracle sheets|calls|trace [--plain]    cases on standard input
   oracle compare COUNT SEED
   oracle minpack ...                     for tools/compare-minpack
-  oracle speed M N CALLS MODE [--plain]  what the program `speed` prints";
+  oracle speed M N CALLS MODE [--plain]  what the program `speed` prints
+  oracle --help
+Exit status: 0; 1 where a comparison, a coverage or a judgement found what should not be, as its last line says; 2 for trouble";
+
+/// What the tools take as trouble; a verdict that is not good is no trouble, and has its own line.
+const TROUBLE: u8 = 2;
 
 type Outcome = Result<(), String>;
+
+/// A verdict that was printed, and whether it is good.
+type Verdict = Result<bool, String>;
 
 fn say(out: &mut impl Write, text: &str) -> Outcome {
     out.write_all(text.as_bytes()).map_err(|e| e.to_string())
@@ -76,12 +84,9 @@ fn make_scripts(scripts: impl Iterator<Item = Vec<Item>>) -> Outcome {
     out.flush().map_err(|e| e.to_string())
 }
 
-fn cover((coverage, wanted): (Coverage, Vec<String>)) -> Outcome {
+fn cover((coverage, wanted): (Coverage, Vec<String>)) -> Verdict {
     print!("{}", coverage.table(&wanted));
-    match coverage.missing(&wanted)[..] {
-        [] => Ok(()),
-        _ => Err("not everything is covered".into()),
-    }
+    Ok(coverage.missing(&wanted).is_empty())
 }
 
 fn leaves(engine: &dyn Working, count: u64, seed: u64) -> Outcome {
@@ -99,7 +104,7 @@ fn leaves(engine: &dyn Working, count: u64, seed: u64) -> Outcome {
     out.flush().map_err(|e| e.to_string())
 }
 
-fn compare(count: u64, seed: u64) -> Outcome {
+fn compare(count: u64, seed: u64) -> Verdict {
     let leaves = compare::leaves(count, seed);
     println!(
         "{} leaf vectors compared, {} differ",
@@ -116,11 +121,10 @@ fn compare(count: u64, seed: u64) -> Outcome {
         sequences.differ
     );
     print!("{}", coverage.text());
-    if leaves.differ + sheets.differ + sequences.differ == 0 {
-        Ok(())
-    } else {
-        Err("they differ".into())
-    }
+    let differ = leaves.differ + sheets.differ + sequences.differ;
+    let compared = leaves.compared + sheets.compared + sequences.compared;
+    println!("{compared} compared, {differ} differ");
+    Ok(differ == 0)
 }
 
 fn checksum(engine: &dyn Working, task: &speed::Task) -> Outcome {
@@ -154,20 +158,7 @@ fn command(words: &[&str], engine: &dyn Working) -> Outcome {
             number(count)?,
             number(seed)?,
         )),
-        ["cover", "sheets", count, seed] => cover(cases::covered_by_sheets(
-            engine,
-            number(count)?,
-            number(seed)?,
-        )),
-        ["cover", kind, count, seed] => cover(cases::covered_by_scripts(
-            engine,
-            scripted(kind)?,
-            number(count)?,
-            number(seed)?,
-        )),
         ["leaves", count, seed] => leaves(engine, number(count)?, number(seed)?),
-        ["compare", count, seed] => compare(number(count)?, number(seed)?),
-        ["minpack", ref rest @ ..] => minpack::command(rest),
         ["speed", m, n, calls, mode] => checksum(
             engine,
             &speed::Task {
@@ -180,7 +171,30 @@ fn command(words: &[&str], engine: &dyn Working) -> Outcome {
         ["sheets"] => sheets(engine),
         ["calls"] => calls(engine),
         ["trace"] => traces(engine),
+        ["--help" | "-h"] => {
+            println!("{USAGE}");
+            Ok(())
+        }
         _ => Err(USAGE.to_string()),
+    }
+}
+
+fn judged(words: &[&str], engine: &dyn Working) -> Verdict {
+    match *words {
+        ["cover", "sheets", count, seed] => cover(cases::covered_by_sheets(
+            engine,
+            number(count)?,
+            number(seed)?,
+        )),
+        ["cover", kind, count, seed] => cover(cases::covered_by_scripts(
+            engine,
+            scripted(kind)?,
+            number(count)?,
+            number(seed)?,
+        )),
+        ["compare", count, seed] => compare(number(count)?, number(seed)?),
+        ["minpack", ref rest @ ..] => minpack::command(rest),
+        _ => command(words, engine).map(|()| true),
     }
 }
 
@@ -196,11 +210,12 @@ fn main() -> ExitCode {
         .map(String::as_str)
         .filter(|w| *w != "--plain")
         .collect();
-    match command(&rest, engine) {
-        Ok(()) => ExitCode::SUCCESS,
+    match judged(&rest, engine) {
+        Ok(true) => ExitCode::SUCCESS,
+        Ok(false) => ExitCode::FAILURE,
         Err(text) => {
             eprintln!("{text}");
-            ExitCode::FAILURE
+            ExitCode::from(TROUBLE)
         }
     }
 }

@@ -59,7 +59,7 @@ fn answers<'a>(event: &Event, lines: &mut Lines<'a>) -> Result<Vec<Tokens<'a>>, 
         .collect()
 }
 
-pub fn all(events: &[Event], theirs: &str, show: bool) -> Result<(), String> {
+pub fn all(events: &[Event], theirs: &str, show: bool) -> Result<bool, String> {
     let mut tally = Tally::default();
     let mut lines = theirs.lines();
     for event in events {
@@ -67,8 +67,5 @@ pub fn all(events: &[Event], theirs: &str, show: bool) -> Result<(), String> {
         one(event, &mut answers, &mut tally)?;
     }
     print!("{}", tally.text(show));
-    match tally.unexplained() {
-        0 => Ok(()),
-        k => Err(format!("{k} unexplained")),
-    }
+    Ok(tally.unexplained() == 0)
 }

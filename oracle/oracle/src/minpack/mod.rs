@@ -35,14 +35,16 @@ fn number(word: &str) -> Result<u64, String> {
     word.parse().map_err(|_| format!("not a number: {word}"))
 }
 
-fn printed(write: impl FnOnce(&mut dyn Write) -> io::Result<()>) -> Result<(), String> {
+fn printed(write: impl FnOnce(&mut dyn Write) -> io::Result<()>) -> Result<bool, String> {
     let mut out = BufWriter::new(io::stdout().lock());
     write(&mut out)
         .and_then(|()| out.flush())
+        .map(|()| true)
         .map_err(|e| e.to_string())
 }
 
-pub fn command(words: &[&str]) -> Result<(), String> {
+/// Whether nothing was left unexplained, where that is asked.
+pub fn command(words: &[&str]) -> Result<bool, String> {
     match *words {
         ["make", count, seed] => {
             let (count, seed) = (number(count)?, number(seed)?);
