@@ -78,6 +78,9 @@ module _ (m n : ℕ) (norms : List Float) (f : Reduction) (wide : length norms �
   laid-long : (a : List Float) → storeNeed n ≤ length (lay (factoredRoom m n norms f a))
   laid-long a = rw (front-laid a, length-append front a, front-long) (omega arith)
 
+  pub laid-length : (a : List Float) → length (lay (factoredRoom m n norms f a)) ≡ storeNeed n + length a
+  laid-length a = rw (front-laid a, length-append front a, front-long)
+
   pub factored-alike : (a b : List Float) → (let s = lay (factoredRoom m n norms f a) in
       let t = lay (factoredRoom m n norms f b) in
       Alike (load n s) (load n t) × HeldAlike (load n s) (load n t))

@@ -1,7 +1,6 @@
 -- The three demands, as theorems. Read from top to bottom; each theorem is proved in the file that it cites.
---
 -- They are over the definitions that the contracts of the public functions cite: each contract is one equation with its definition. `proofs/Ties.antt`
--- says for each function that takes a state, for factoring and for a sheet, that whatever its contract lets it leave (answer, state and every lent
+-- says for each function that takes a state without marks, for factoring and for a sheet, that whatever its contract lets it leave (answer, state and every lent
 -- slice) is what `perform c st order store` gives, `factorCall` or `sheetCall`. Beside each contract stands a theorem that no second outcome fits it
 -- (`NAME-one-outcome`). The words that the statements use stand in `specs/` of the crates that they speak of (`tools/believed` lists them).
 --
@@ -107,8 +106,8 @@ demand-1-answered = table.answered-otherwise
 pub demand-1-work : (c : Call) (st : State) (order : List ℕ) (store : List Float) → NoneHold (testsOf c st order store) → load (st .n) (perform c st order store .store) .work ≡ zeros (st .n)
 demand-1-work = table.work-rests
 
--- The held calls on a store that is only read, and those through a reader, answer and write as the same call does on a store that is lent to be
--- written (`proofs/Ties.antt`). `new`, which makes a reader, is never refused.
+-- The held calls on a store that is only read answer and write as the same call does on a store that is lent to be written (`proofs/Ties.antt`); so do
+-- those through a reader, which take a state with marks (`proofs/FrozenTies.antt`). `new`, which makes a reader, is never refused.
 
 -- Factoring: refused 2 to 7, the lent slices as they came and the state empty; refused 8 where R, a column norm or qt_b would hold a number that is
 -- not finite, the needed store and bench +0, the order 0 to n−1, the state empty; or answered, and the bench +0.
@@ -147,8 +146,9 @@ module _ (m n : ℕ) (jacobian residuals store : List Float) (order : List ℕ) 
 pub demand-1-leaves : Leaves
 demand-1-leaves = leaf.leaves
 
--- The workings without a state, a search's seven with `reduce_bench` and `eliminate_diag`, and the parts of a store, a row for each: 2 for its sizes,
--- 3 for a slice that does not fit, each exactly when it is the first that holds, and then every lent slice is as it came; answered otherwise.
+-- The workings without a state, a search's seven with `reduce_bench`, `reduce_filled`, `factor_filled` and `eliminate_diag`, and the parts of a store, a row
+-- for each: 2 for its sizes, 3 for a slice that does not fit, each exactly when it is the first that holds, and then every lent slice is as it came;
+-- answered otherwise, but `factor_filled` refused 8 exactly where the room that it would leave is not finite, with what is then in the lent slices.
 pub demand-1-workings : Workings
 demand-1-workings = working.workings
 

@@ -41,11 +41,11 @@ module _ (m n : ℕ) (jacobian residuals store : List Float) (order : List ℕ) 
   abbrev pub breaks : Factored
   breaks = factoringBreaks m n store order bench
 
-  worked-stands : finiteRoom room ≡ true → factorWorked m n jacobian residuals store order bench ≡ stands
+  pub worked-stands : finiteRoom room ≡ true → factorWorked m n jacobian residuals store order bench ≡ stands
   unfolding factorWorked
   worked-stands h = rw (h, factorWorked)
 
-  worked-breaks : finiteRoom room ≡ false → factorWorked m n jacobian residuals store order bench ≡ breaks
+  pub worked-breaks : finiteRoom room ≡ false → factorWorked m n jacobian residuals store order bench ≡ breaks
   unfolding factorWorked
   worked-breaks h = rw (h, factorWorked)
 

@@ -63,7 +63,7 @@ abbrev pub Laws : StoreCall → Type 0
 Laws c = LawsOf (performStore c) (isStoreHeld c) (settling c)
 
 -- ---- keeps
-leaving-kept : (b : List (List Float)) (l : List Float) (r : Room) → Kept r (leaving b l r)
+pub leaving-kept : (b : List (List Float)) (l : List Float) (r : Room) → Kept r (leaving b l r)
 unfolding leaving
 leaving-kept b l r = record { upper = refl; qtb = refl; norms = refl; rest = refl }
 
@@ -73,14 +73,14 @@ call-keeps c st order s = performed c st order s (λ (o : StoreOutcome). Kept (l
     (λ h. record { upper = refl; qtb = refl; norms = refl; rest = refl })
 
 -- ---- lasts: a store whose fourth part is whole is long enough, and its surplus is as it was
-four-parts : (n : ℕ) (s : List Float) → 0 < n → length (load n s .work) ≡ n → n * n + 4 * n ≤ length s
+pub four-parts : (n : ℕ) (s : List Float) → 0 < n → length (load n s .work) ≡ n → n * n + 4 * n ≤ length s
 unfolding load part
 four-parts n s p e =
     let a = length-take n (drop (n * n + 3 * n) s) in
     let b = length-drop (n * n + 3 * n) s in
     omega arith
 
-same-length : (n : ℕ) (s t : List Float) → n * n + 4 * n ≤ length s → n * n + 4 * n ≤ length t → load n t .rest ≡ load n s .rest → length t ≡ length s
+pub same-length : (n : ℕ) (s t : List Float) → n * n + 4 * n ≤ length s → n * n + 4 * n ≤ length t → load n t .rest ≡ load n s .rest → length t ≡ length s
 unfolding load
 same-length n s t p q e =
     let a = length-drop (n * n + 4 * n) s in
@@ -88,7 +88,7 @@ same-length n s t p q e =
     let d = ap length e in
     omega arith
 
-work-left : (n : ℕ) (b : List (List Float)) (l : List Float) (r : Room) (x : Room) → x ≡ leaving b l r → Shaped n (leaving b l r) → length (x .work) ≡ n
+pub work-left : (n : ℕ) (b : List (List Float)) (l : List Float) (r : Room) (x : Room) → x ≡ leaving b l r → Shaped n (leaving b l r) → length (x .work) ≡ n
 work-left n b l r x e z = ap (λ (y : Room). length (y .work)) e ∙ z .work-long
 
 call-lasts : (c : StoreCall) (st : State) (order : List ℕ) (s : List Float) → length (performStore c st order s .store) ≡ length s

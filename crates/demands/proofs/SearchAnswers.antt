@@ -7,7 +7,7 @@ use mathlib.Core.List.{List}
 use mathlib.Core.Logic.{_↔_, _⊎_, inl, inr}
 use Prim.Native.Nat.{ℕ, _<_, _≤_}
 use native.Mathlib.Omega.{arith}
-use lib.ListN.{length, take, drop}
+use lib.ListN.{length, take, drop, length-append, length-drop}
 use lib.Seq.{length-take-le, take-at, drop-at}
 use lib.Ieee.{Float, binary64, sub, lt, le}
 use borrow.Author.Tests.{not-false}
@@ -124,6 +124,14 @@ module _ (st : State) (order : List ℕ) (diag : List Float) (radius lambda : Fl
     -- LAW: the surplus of the output is as it was
     pub surplus-kept : drop (st .n) (searchCall st order diag radius lambda store out .out) ≡ drop (st .n) out
     surplus-kept = ap (drop (st .n)) written-step ∙ drop-at step (drop (length step) out) (st .n) step-long ∙ ap (λ (k : ℕ). drop k out) step-long
+
+    -- LAW: an output with a number for each column is written whole
+    pub out-length : length out ≡ st .n → length (searchCall st order diag radius lambda store out .out) ≡ st .n
+    out-length l =
+        let a = step-long in
+        let b = length-append step (drop (length step) out) in
+        let d = length-drop (length step) out in
+        ap length written-step ∙ omega arith
 
     -- LAW: the norm is that of scaling times step, and finite
     pub norm-of-step : a .0 .«dp_norm» ≡ norm (productAll (take (st .n) (searchCall st order diag radius lambda store out .out)) (take (st .n) diag))

@@ -17,7 +17,7 @@ use Rattle.demands.proofs.Effects.{Effect, effect, effected, testedOf, 
 use Rattle.demands.specs.Refusals.{storeRefusal, shortestOf, furtherOf, storeTests}
 
 -- a slice that is long enough does not decide
-least-same : (n a b x : ℕ) → n ≤ a → n ≤ b → ltb (min a x) n ≡ ltb (min b x) n
+pub least-same : (n a b x : ℕ) → n ≤ a → n ≤ b → ltb (min a x) n ≡ ltb (min b x) n
 least-same n a b x p q = by (ltb x n) refl
   where
     by : (c : Bool) → ltb x n ≡ c → ltb (min a x) n ≡ ltb (min b x) n

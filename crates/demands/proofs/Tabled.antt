@@ -113,7 +113,7 @@ further-small non-singular st order = refl
 tested-small : (c : StoreCall) (st : State) (order : List ℕ) (s : List Float) → testedOf c st order s < 8
 tested-small c st order s = first-small (storeTests c st (length s) order) (further-small c st order)
 
-refused-number : (c : StoreCall) (k : ℕ) → storeNumber (refusedAs c k) ≡ k
+pub refused-number : (c : StoreCall) (k : ℕ) → storeNumber (refusedAs c k) ≡ k
 refused-number (zero-solve out) k = refl
 refused-number (damped-solve diag out) k = refl
 refused-number (held-solve rhs out) k = refl

@@ -1,5 +1,5 @@
 -- Demand 3: the public calls that take a state, those of `Calls` and the search, as one type, and what each does by the very definition that its
--- contract cites. The held calls on a store that is only read, and those through a reader, are tied to the held calls (`proofs/Ties.antt`).
+-- contract cites. The held calls on a store that is only read are tied to the held calls (`proofs/Ties.antt`).
 use Prim.Native.Nat.{ℕ}
 use mathlib.Core.Bool.{Bool, true, _&&_, _||_}
 use mathlib.Core.List.{List}

@@ -7,5 +7,6 @@ pub mod Eight
 pub mod Factorings
 pub mod Workings
 pub mod Alike
+pub mod Marked
 -- What only inner functions, laws and examples cite stands apart: nobody need believe it.
 pub mod inner

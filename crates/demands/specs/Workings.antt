@@ -4,18 +4,20 @@ use mathlib.Core.List.{List, [], _∷_, _++_}
 use mathlib.Core.Logic.{_⊎_, _↔_}
 use Prim.Native.Nat.{ℕ, _*_, _<_, min}
 use lib.Dec.{ltb}
-use lib.ListN.{length}
+use lib.ListN.{length, take, drop}
 use lib.Ieee.{Float}
-use mathlib.Core.Bool.{Bool}
+use mathlib.Core.Bool.{Bool, true, false}
 use Rattle.leaves.specs.Reply.{refused, Reply}
 use Rattle.leaves.specs.Vector.{dot, axpy, axpyZero, imax, copy}
 use Rattle.leaves.specs.Triangle.{solveUpper}
 use Rattle.leaves.specs.Norm.{enorm}
 use Rattle.demands.specs.Calls.{replyNumber}
 use Rattle.leaves.specs.Tests.{Test, firstOf}
-use Rattle.reduce.specs.Reduced.{Reduced, reducedAs, reduceTests, reduceCall}
+use Rattle.reduce.specs.Reduced.{Reduced, reducedAs, reduceTests, reduceCall, filledCall as reduceFilled}
 use Rattle.eliminate.specs.Eliminated.{Eliminated, eliminatedAs, eliminateTests, eliminateCall}
 use Rattle.factor.specs.Outcome.{Read, read, Left, leftIn}
+use Rattle.factor.specs.Factoring.{finiteRoom}
+use Rattle.factor.specs.Filled.{Filled, filledAs, filledOf, filledTests, factorFilled}
 use Rattle.factor.specs.Tests.{permutationTests, sizeTests, roomTests, solveTests}
 use Rattle.factor.specs.PivotOrder.{zeroIn, dampedIn, heldZeroIn, heldDampedIn, productIn, fullRank, emptyIn}
 use Rattle.factor.specs.Parts.{qtbIn, normsIn, diagonalIn, restIn}
@@ -23,6 +25,7 @@ use Rattle.factor.specs.declared.state.State.{State}
 use Rattle.sheet.specs.Fit.{Fit}
 use Rattle.sheet.specs.Lines.{linesTests, linesOf, sheetText, linesCall, textCall}
 use Rattle.leaves.specs.Refusing.{NoneHold, RefusedBy}
+use Rattle.demands.specs.Factorings.{roomMade, factoringStands, factoringBreaks}
 
 -- a column is shorter than the triangle, x than its n places, or the matrix than its n columns
 abbrev pub Short : ℕ → ℕ → List Float → List Float → Type 0
@@ -48,11 +51,21 @@ pub record ByTests {A B : Type 0} (tests : List Test) (reply : A → Reply B) (c
   pub as-it-came : (k : ℕ) → 0 < k → RefusedBy tests k → outcome ≡ came (refused k)
   pub answered-when : (replyNumber (reply outcome) ≡ 0) ↔ NoneHold tests
 
+-- The same of a working that is refused 8 too, exactly when no condition holds and what it made is not finite; what it leaves then, and answered.
+pub record ByTestsAnd8 {A B : Type 0} (tests : List Test) (reply : A → Reply B) (came : Reply B → A) (finite : Bool) (stands breaks outcome : A) : Type 0 where
+  pub refused-when : (k : ℕ) → 0 < k → k < 8 → (replyNumber (reply outcome) ≡ k) ↔ RefusedBy tests k
+  pub as-it-came : (k : ℕ) → 0 < k → RefusedBy tests k → outcome ≡ came (refused k)
+  pub eight-when : (replyNumber (reply outcome) ≡ 8) ↔ (NoneHold tests × (finite ≡ false))
+  pub eight-left : replyNumber (reply outcome) ≡ 8 → outcome ≡ breaks
+  pub answered-when : (replyNumber (reply outcome) ≡ 0) ↔ (NoneHold tests × (finite ≡ true))
+  pub answered-left : replyNumber (reply outcome) ≡ 0 → outcome ≡ stands
+
 -- a working on a store of n columns that writes one slice, which comes as w
 abbrev Reads : List Test → List Float → Read → Type 0
 Reads ts w o = ByTests ts (λ (x : Read). x .reply) (λ a. read a w) o
 
--- 2 for the sizes; 3 for a store or another slice that is too short, of `reduce_bench` and `eliminate_diag` for one that is not of its exact length
+-- 2 for the sizes; 3 for a store or another slice that is too short, of `reduce_bench`, `reduce_filled` and `eliminate_diag` for one that is not of its
+-- exact length; of `factor_filled` 8 too, as of a factoring
 pub record Workings : Type 0 where
   pub zero : (m n : ℕ) (store w : List Float) → Reads (sizeTests m n (length store) (length w)) w (zeroIn m n store w)
   pub damped : (n : ℕ) (ds store w : List Float)
@@ -65,6 +78,13 @@ pub record Workings : Type 0 where
   pub reduce-bench : (m n : ℕ) (jacobian residuals norms diag : List Float) (order : List ℕ) (bench : List Float)
       → ByTests (reduceTests m n (length jacobian) (length residuals) (length norms) (length diag) (length order) (length bench))
       (λ (x : Reduced). x .reply) (λ a. reducedAs a norms diag order bench) (reduceCall m n jacobian residuals norms diag order bench)
+  pub reduce-filled : (m n : ℕ) (norms diag : List Float) (order : List ℕ) (bench : List Float)
+      → ByTests (reduceTests m n (length (take (m * n) bench)) (length (drop (m * n) bench)) (length norms) (length diag) (length order) (length bench))
+      (λ (x : Reduced). x .reply) (λ a. reducedAs a norms diag order bench) (reduceFilled m n norms diag order bench)
+  pub factor-filled : (m n : ℕ) (store : List Float) (order : List ℕ) (bench : List Float)
+      → ByTestsAnd8 (filledTests m n (length store) (length order) (length bench)) (λ (x : Filled). x .reply) (λ a. filledAs a store order bench)
+      (finiteRoom (roomMade m n (take (m * n) bench) (drop (m * n) bench) store)) (filledOf (factoringStands m n (take (m * n) bench) (drop (m * n) bench) store order bench))
+      (filledOf (factoringBreaks m n store order bench)) (factorFilled m n store order bench)
   pub eliminate-diag : (n : ℕ) (ds square rhs ldiag : List Float)
       → ByTests (eliminateTests n (length square) (length ds) (length rhs) (length ldiag))
       (λ (x : Eliminated). x .reply) (λ a. eliminatedAs a square rhs ldiag) (eliminateCall n ds square rhs ldiag)

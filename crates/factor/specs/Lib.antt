@@ -1,5 +1,6 @@
 -- What the public contracts of `factor` cite: modules 2 to 5 of document 01. The calls first ..
 pub mod Factoring
+pub mod Filled
 pub mod Solves
 pub mod HeldCalls
 pub mod PivotOrder

@@ -3,6 +3,7 @@ pub mod answer;
 pub mod check;
 pub mod cholesky;
 mod factor;
+pub mod filled;
 mod held;
 mod holding;
 mod laying;

@@ -17,8 +17,8 @@ use borrow.Fn.World.{ArgsD}
 use borrow.Fn.Kinds.{endedOf}
 use Rattle.leaves.specs.Reply.{doneOf}
 use Rattle.leaves.specs.declared.reply.Done.{Done}
-use Rattle.factor.specs.HeldCalls.{solveCall, mulCall}
-use Rattle.factor.specs.Outcome.{read, readOf}
+use Rattle.calls.specs.HeldCalls.{markedSolve, markedMul, markedRead}
+use Rattle.factor.specs.Outcome.{read}
 use Rattle.factor.proofs.Answers.{read-same}
 use Rattle.reader.specs.declared.reader.CholeskyFactor.{CholeskyFactor}
 use Rattle.reader.proofs.reader.new as new
@@ -46,7 +46,7 @@ new-one-outcome κs a r₁ r₂ s₁ s₂ p q = p ∙ sym q
 abbrev pub Says-solve : (κs : Lfts 4) → Args solve.signature κs → Done → AtExit solve.ended κs → Type 0
 Says-solve κs a r s =
     read (doneOf r) (now (s .1 .1 .1 .0))
-    ≡ readOf (solveCall (a .0 .state) (now (a .1 .0)) (now (a .1 .1 .0)) (now (a .0 .square)) (now (a .1 .1 .1 .0)))
+    ≡ markedRead (markedSolve (a .0 .state) (now (a .1 .0)) (now (a .1 .1 .0)) (now (a .0 .square)) (now (a .1 .1 .1 .0)))
 
 pub solve-is-the-clause : {M : Type 1} (𝓤 : URA M) (H : Heap 𝓤) (A : Atoms 𝓤) (mem : Memory → SProp 𝓤) (run : Routine → Fun 𝓤) (κs : Lfts 4) (a : Args solve.signature κs) (r : Done) (s : AtExit solve.ended κs)
     → solve.clauses 𝓤 H A mem run κs a .ensures tt r s ≡ fact 𝓤 (Says-solve κs a r s)
@@ -57,7 +57,7 @@ pub solve-one-outcome : (κs : Lfts 4) (a : Args solve.signature κs) (r₁ r₂
 solve-one-outcome κs a r₁ r₂ s₁ s₂ p q = read-same r₁ r₂ (p ∙ sym q)
 
 abbrev pub Says-mul-qt-b : (κs : Lfts 2) → Args mul-qt-b.signature κs → Done → AtExit mul-qt-b.ended κs → Type 0
-Says-mul-qt-b κs a r s = read (doneOf r) (now (s .1 .0)) ≡ readOf (mulCall (a .0 .state) (now (a .0 .square)) (now (a .1 .0)))
+Says-mul-qt-b κs a r s = read (doneOf r) (now (s .1 .0)) ≡ markedRead (markedMul (a .0 .state) (now (a .0 .square)) (now (a .1 .0)))
 
 pub mul-qt-b-is-the-clause : {M : Type 1} (𝓤 : URA M) (H : Heap 𝓤) (A : Atoms 𝓤) (mem : Memory → SProp 𝓤) (run : Routine → Fun 𝓤) (κs : Lfts 2) (a : Args mul-qt-b.signature κs) (r : Done) (s : AtExit mul-qt-b.ended κs)
     → mul-qt-b.clauses 𝓤 H A mem run κs a .ensures tt r s ≡ fact 𝓤 (Says-mul-qt-b κs a r s)

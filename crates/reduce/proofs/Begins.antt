@@ -1,12 +1,12 @@
 -- What a reduction starts from. Assumes nothing.
 use mathlib.Core.Path.{_≡_, refl, sym, ap, _∙_}
-use mathlib.Core.List.{List, [], _∷_, _++_, map, append-assoc}
-use Prim.Native.Nat.{ℕ, zero, suc, _+_, _*_, _<_, _≤_}
-use native.Mathlib.Nat.{suc-mul, add-comm, mul-comm, le-refl, not-suc-le-zero, le-of-suc-le-suc}
+use mathlib.Core.List.{List, [], _∷_, map}
+use Prim.Native.Nat.{ℕ, zero, suc, _+_, _*_, _<_}
+use native.Mathlib.Nat.{mul-comm, le-refl, not-suc-le-zero, le-of-suc-le-suc}
 use native.Mathlib.Numerals.{add-one}
 use native.Mathlib.Omega.{arith}
-use lib.ListN.{length, getD, take, drop, length-drop}
-use lib.Seq.{length-take-le, take-suc, take-at, drop-at, take-add, take-take, getD-take}
+use lib.ListN.{length, getD, take, drop}
+use lib.Seq.{length-take-le, take-suc, getD-take}
 use lib.Ieee.{Float, nan}
 use Rattle.leaves.specs.Norm.{norm, either, ranges, rangesOf}
 use Rattle.leaves.specs.declared.norm.Ranges.{Ranges}
@@ -17,6 +17,7 @@ use Rattle.reduce.specs.Reduction.{start}
 use Rattle.reduce.specs.inner.Bench.{grid, Benched, underWay}
 use Rattle.leaves.proofs.Triangles.{column-at}
 use Rattle.leaves.proofs.Squares.{columns-length}
+use Rattle.leaves.proofs.Joined.{columns-front}
 use Rattle.leaves.proofs.Grids.{column-long}
 
 pub norms-length : (cs : List (List Float)) → length (map norm cs) ≡ length cs
@@ -49,30 +50,18 @@ unfolding columns
 take-columns m zero s = refl
 take-columns m (suc n) s = ap (λ (l : List (List Float)). take m s ∷ l) (take-columns m n (drop m s))
 
-columns-ahead : (m n : ℕ) (s b : List Float) → n * m ≤ length s → columns m n (take (n * m) s ++ b) ≡ columns m n s
-unfolding columns
-columns-ahead m zero s b h = refl
-columns-ahead m (suc n) s b h =
-    let e : suc n * m ≡ m + n * m = suc-mul n m ∙ add-comm (n * m) m in
-    let l : length (take m s) ≡ m = length-take-le m s (omega arith) in
-    let p : take (suc n * m) s ++ b ≡ take m s ++ (take (n * m) (drop m s) ++ b) = rw (e, take-add m (n * m) s, append-assoc (take m s) (take (n * m) (drop m s)) b) in
-    rw (
-      p,
-      take-at (take m s) (take (n * m) (drop m s) ++ b) m l,
-      drop-at (take m s) (take (n * m) (drop m s) ++ b) m l,
-      columns-ahead m n (drop m s) b (simp length-drop (omega arith)),
-    )
+pub front-columns : (m n : ℕ) (s : List Float) → columns m n (take (m * n) s) ≡ columns m n s
+front-columns m n s = ap (λ (k : ℕ). columns m n (take k s)) (mul-comm m n) ∙ columns-front m n s
 
-pub begun : (m n : ℕ) (jac res bench norms d w : List Float) (o o₀ : List ℕ) → m * n ≤ length jac → m ≤ length res → bench ≡ take (m * n) jac ++ take m res
-    → norms ≡ map norm (take n (grid m n bench)) → d ≡ norms → w ≡ norms → o ≡ countFrom (length o₀) 0 → length o₀ ≡ n
-    → (norms ≡ map norm (columns m n jac)) × ((underWay m n bench d w o ≡ start (columns m n jac) (take m res)) × (rangesOf (take n (grid m n bench)) ≡ rangesOf (columns m n jac)))
+pub filled-columns : (m n : ℕ) (s : List Float) → take n (grid m n s) ≡ columns m n (take (m * n) s)
+filled-columns m n s = take-columns m n s ∙ sym (front-columns m n s)
+
+pub filled-residuals : (m n : ℕ) (s : List Float) → getD (grid m n s) n [] ≡ take m (drop (m * n) s)
+filled-residuals m n s = column-at m (suc n) n s (le-refl (suc n)) ∙ ap (λ (k : ℕ). take m (drop k s)) (mul-comm n m)
+
+pub begun : (m n : ℕ) (bench norms d w : List Float) (o o₀ : List ℕ) → norms ≡ map norm (take n (grid m n bench)) → d ≡ norms → w ≡ norms → o ≡ countFrom (length o₀) 0
+    → length o₀ ≡ n → underWay m n bench d w o ≡ start (take n (grid m n bench)) (getD (grid m n bench) n [])
 unfolding start
-begun m n jac res bench norms d w o o₀ hj hr eb en ed ew eo lo =
-    let c : m * n ≡ n * m = mul-comm m n in
-    let b : bench ≡ take (n * m) jac ++ take m res = eb ∙ ap (λ (k : ℕ). take k jac ++ take m res) c in
-    let cols : take n (grid m n bench) ≡ columns m n jac = take-columns m n bench ∙ ap (columns m n) b ∙ columns-ahead m n jac (take m res) (omega arith) in
-    let rhs : getD (grid m n bench) n [] ≡ take m res =
-    column-at m (suc n) n bench (le-refl (suc n)) ∙ rw (b, drop-at (take (n * m) jac) (take m res) (n * m) (length-take-le (n * m) jac (omega arith))) (take-take m m res (le-refl m)) in
-    let ns : norms ≡ map norm (columns m n jac) = en ∙ ap (map norm) cols in
-    let k : countFrom (length o₀) 0 ≡ countFrom (length (columns m n jac)) 0 = ap (λ (l : ℕ). countFrom l 0) (lo ∙ sym (columns-length m n jac)) in
-    (ns, (rw (cols, rhs, ed, ew, ns, eo, k), ap rangesOf cols))
+begun m n bench norms d w o o₀ en ed ew eo lo =
+    let k : countFrom (length o₀) 0 ≡ countFrom (length (take n (grid m n bench))) 0 = ap (λ (l : ℕ). countFrom l 0) (lo ∙ sym (bench-wide m n bench)) in
+    rw (ed, ew, en, eo, k)

@@ -136,7 +136,7 @@ module _ (m n : ℕ) (jac res v₀ d₀ : List Float) (o₀ : List ℕ) (b₀ : 
   unfolding reduceCall
   call-refuses c e h = call-refused worked (λ (k : ℕ). reducedAs (refused k) v₀ d₀ o₀ b₀) _ c (sym e) (ne-eqb c 0 h)
 
-  call-works : tests ≡ 0 → worked ≡ reduceCall m n jac res v₀ d₀ o₀ b₀
+  pub call-works : tests ≡ 0 → worked ≡ reduceCall m n jac res v₀ d₀ o₀ b₀
   unfolding reduceCall
   call-works e = call-worked worked (λ (k : ℕ). reducedAs (refused k) v₀ d₀ o₀ b₀) _ e
 
@@ -166,10 +166,6 @@ module _ (m n : ℕ) (jac res v₀ d₀ : List Float) (o₀ : List ℕ) (b₀ : 
 pub start-norms : (m n : ℕ) (b d w : List Float) (o : List ℕ) (cs : List (List Float)) (r : List Float) → underWay m n b d w o ≡ start cs r → d ≡ map norm (take n (grid m n b))
 unfolding start
 start-norms m n b d w o cs r e = ap (λ (x : Reduction). x .diag) e ∙ sym (ap (λ (x : Reduction). map norm (x .cols)) e)
-
-pub start-seen : (m n : ℕ) (b d w : List Float) (o : List ℕ) (cs : List (List Float)) (r : List Float) {seen : Ranges} → underWay m n b d w o ≡ start cs r → seen ≡ rangesOf cs → seen ≡ rangesOf (take n (grid m n b))
-unfolding start
-start-seen m n b d w o cs r e h = h ∙ sym (ap (λ (x : Reduction). rangesOf (x .cols)) e)
 
 -- ---- for callers: what stands in the lent slices after a reduction whose sizes and lengths fit
 pub reduces : (m n : ℕ) (jac res v₀ v d₀ d : List Float) (o₀ o : List ℕ) (b₀ b : List Float) {r : Reply Ranges} → outside m n ≡ false → length jac ≡ m * n → length res ≡ m

@@ -3,4 +3,5 @@ pub mod Begins
 pub mod Pivots
 pub mod Fitting
 pub mod Lent
+pub mod Filled
 pub mod Unique

@@ -7,15 +7,15 @@ use leaves::norm::neither;
 use leaves::pieces::copy_long;
 use leaves::vector::count;
 ghost use mathlib.Core.Path.{_≡_};
-ghost use mathlib.Core.List.{_++_, map};
+ghost use mathlib.Core.List.{[], _++_, map};
 ghost use Prim.Native.Nat.{_+_, _*_, _<_, _≤_};
-ghost use lib.ListN.{length, take};
+ghost use lib.ListN.{length, getD, take};
 ghost use Rattle.leaves.specs.Norm.{norm, rangesOf};
-ghost use Rattle.leaves.specs.Triangle.{columns};
 ghost use Rattle.reduce.specs.Reduction.{start};
 ghost use Rattle.reduce.specs.inner.Bench.{grid, Benched, underWay};
 
-fn copy_in(m: usize, n: usize, jacobian: &[f64], residuals: &[f64], bench: &mut [f64])
+// The Jacobian and then the residuals, in a bench.
+pub(crate) fn copy_in(m: usize, n: usize, jacobian: &[f64], residuals: &[f64], bench: &mut [f64])
     requires { ⌜ Benched m n (now bench) ⌝ }
     requires { ⌜ m * n ≤ length (now jacobian) ⌝ }
     requires { ⌜ m ≤ length (now residuals) ⌝ }
@@ -47,30 +47,26 @@ fn norms_in(m: usize, n: usize, bench: &[f64], norms: &mut [f64]) -> Ranges
     seen
 }
 
-pub(crate) fn begin(
+// Of the columns and the residuals that stand in the bench.
+pub(crate) fn begin_filled(
     m: usize,
     n: usize,
-    jacobian: &[f64],
-    residuals: &[f64],
+    bench: &[f64],
     norms: &mut [f64],
     diag: &mut [f64],
     work: &mut [f64],
     order: &mut [usize],
-    bench: &mut [f64],
 ) -> Ranges
     requires { ⌜ Benched m n (now bench) ⌝ }
     requires { ⌜ 0 < m ⌝ }
-    requires { ⌜ m * n ≤ length (now jacobian) ⌝ }
-    requires { ⌜ m ≤ length (now residuals) ⌝ }
     requires { ⌜ length (now norms) ≡ n ⌝ }
     requires { ⌜ length (now diag) ≡ n ⌝ }
     requires { ⌜ length (now work) ≡ n ⌝ }
     requires { ⌜ length (now order) ≡ n ⌝ }
-    ensures { λ _. ⌜ now (norms .exit) ≡ map norm (columns m n (now (jacobian .entry))) ⌝ }
-    ensures { λ _. ⌜ underWay m n (now (bench .exit)) (now (diag .exit)) (now (work .exit)) (now (order .exit)) ≡ start (columns m n (now (jacobian .entry))) (take m (now (residuals .entry))) ⌝ }
-    ensures { λ r. ⌜ r ≡ rangesOf (columns m n (now (jacobian .entry))) ⌝ }
+    ensures { λ _. ⌜ now (norms .exit) ≡ map norm (take n (grid m n (now (bench .entry)))) ⌝ }
+    ensures { λ _. ⌜ underWay m n (now (bench .entry)) (now (diag .exit)) (now (work .exit)) (now (order .exit)) ≡ start (take n (grid m n (now (bench .entry)))) (getD (grid m n (now (bench .entry))) n []) ⌝ }
+    ensures { λ r. ⌜ r ≡ rangesOf (take n (grid m n (now (bench .entry)))) ⌝ }
 {
-    copy_in(m, n, jacobian, residuals, bench);
     let seen = norms_in(m, n, bench, norms);
     copy_of(norms, diag);
     copy_of(norms, work);

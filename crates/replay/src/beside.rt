@@ -3,8 +3,8 @@
 use crate::reply::After;
 use crate::reply::held;
 use crate::room;
-use factor::state::State;
-use factor::state::Told;
+use calls::state::State;
+use calls::state::Told;
 use leaves::reply::Done;
 use text::double::bits_of;
 ghost use Rattle.text.specs.inner.Part.{Part};
@@ -79,7 +79,7 @@ pub(crate) fn solve(
     out: &mut [f64],
 ) -> After {
     let r = solve_beside(st, store, order, rhs, out);
-    let t = factor::cholesky::solve(st, store, order, rhs, out);
+    let t = calls::cholesky::solve(st, store, order, rhs, out);
     held(t, same(r, t, out))
 }
 
@@ -95,6 +95,6 @@ fn mul_beside(st: State, store: &[f64], out: &[f64]) -> Beside {
 
 pub(crate) fn mul(st: State, store: &mut [f64], out: &mut [f64]) -> After {
     let r = mul_beside(st, store, out);
-    let t = factor::cholesky::mul_qt_b(st, store, out);
+    let t = calls::cholesky::mul_qt_b(st, store, out);
     held(t, same(r, t, out))
 }

@@ -5,14 +5,26 @@ use crate::reply::After;
 use crate::reply::told;
 use crate::reply::unplayed;
 use crate::room;
-use factor::state::State;
+use crate::room::marks_of;
+use calls::state::State;
 use lines::scan::Number;
 use lines::scan::doubles;
 use lines::scan::word;
 use text::double::of_bits;
 
+// `F` has no marks; `K` has them after the sizes.
+fn marks_after(s: &[u8], n: Number, marked: bool) -> Number {
+    if marked {
+        return word(s, n.next);
+    }
+    let mut none = n;
+    none.value = 0;
+    none
+}
+
 pub(crate) fn factoring(
     s: &[u8],
+    marked: bool,
     st: State,
     store: &mut [f64],
     order: &mut [usize],
@@ -20,9 +32,11 @@ pub(crate) fn factoring(
 ) -> After {
     let m = word(s, 2);
     let n = word(s, m.next);
-    let j = word(s, n.next);
+    let k = marks_after(s, n, marked);
+    let j = word(s, k.next);
     let r = word(s, j.next);
-    if !r.good {
+    let parsed = r.good & (k.value <= 65535);
+    if !parsed {
         return unplayed(false, st);
     }
     let mut jacobian = room::jacobian();
@@ -35,9 +49,10 @@ pub(crate) fn factoring(
     }
     let a = f.len;
     let b = g.len;
-    let t = factor::pivoted_qr::pivoted_qr(
+    let t = calls::pivoted_qr::pivoted_qr(
         m.value as usize,
         n.value as usize,
+        marks_of(k.value),
         &jacobian[..a],
         &residuals[..b],
         store,
@@ -53,7 +68,7 @@ pub(crate) fn gradient(s: &[u8], st: State, store: &mut [f64], order: &[usize]) 
         return unplayed(false, st);
     }
     let bnorm = of_bits(x.value);
-    reply::of_gradient(measures::measures::max_a_t_b_scaled(st, store, order, bnorm))
+    reply::of_gradient(calls::measure::max_a_t_b_scaled(st, store, order, bnorm))
 }
 
 // The calls that one vector is lent to. The radius and lambda are the search's, which alone reads them.
@@ -68,19 +83,19 @@ fn on_vector(
     out: &mut [f64],
 ) -> After {
     if op == b'D' {
-        let t = factor::least_squares::solve_with_diagonal(st, store, order, v, out);
+        let t = calls::least_squares::solve_with_diagonal(st, store, order, v, out);
         return told(t);
     }
     if op == b'S' {
         return beside::solve(st, store, order, v, out);
     }
     if op == b'N' {
-        return reply::of_measured(measures::measures::a_x_norm(st, store, order, v));
+        return reply::of_measured(calls::measure::a_x_norm(st, store, order, v));
     }
     if !lambda.good {
         return unplayed(false, st);
     }
-    let t = search::trust_region::determine_lambda_and_parameter_update(
+    let t = calls::trust_region::determine_lambda_and_parameter_update(
         st,
         store,
         order,

@@ -8,13 +8,15 @@ use crate::reply::quiet;
 use crate::reply::told;
 use crate::reply::unplayed;
 use crate::rescale;
-use factor::least_squares::solve_with_zero_diagonal;
+use crate::room::marks_of;
+use calls::least_squares::solve_with_zero_diagonal;
+use calls::measure::determined;
+use calls::measure::is_non_singular;
+use calls::state::State;
 use factor::state::Held;
-use factor::state::State;
+use lines::scan::Number;
 use lines::scan::byte;
 use lines::scan::word;
-use measures::measures::determined;
-use measures::measures::is_non_singular;
 use text::double::of_bits;
 
 fn held_of(k: u64) -> Held {
@@ -26,11 +28,22 @@ fn held_of(k: u64) -> Held {
     }
 }
 
+// The marks are left out where there are none.
+fn claimed_marks(s: &[u8], held: Number) -> Number {
+    if held.next < s.len() {
+        return word(s, held.next);
+    }
+    let mut none = held;
+    none.value = 0;
+    none
+}
+
 fn claim(s: &[u8], st: State) -> After {
     let m = word(s, 2);
     let n = word(s, m.next);
     let held = word(s, n.next);
-    let good = held.good & (held.value <= 3);
+    let marks = claimed_marks(s, held);
+    let good = marks.good & (held.value <= 3) & (marks.value <= 65535);
     if !good {
         return unplayed(false, st);
     }
@@ -38,6 +51,7 @@ fn claim(s: &[u8], st: State) -> After {
         m: m.value as usize,
         n: n.value as usize,
         held: held_of(held.value),
+        marks: marks_of(marks.value),
     };
     quiet(claimed)
 }
@@ -80,7 +94,8 @@ pub(crate) fn play(
 ) -> After {
     let op = byte(s, 0);
     match op {
-        b'F' => call::factoring(s, st, store, order, bench),
+        b'F' => call::factoring(s, false, st, store, order, bench),
+        b'K' => call::factoring(s, true, st, store, order, bench),
         b'T' => claim(s, st),
         b'O' => put_order(s, st, order),
         b'W' => put_store(s, st, store),

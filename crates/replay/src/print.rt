@@ -4,8 +4,8 @@ use crate::reply::Extra;
 use crate::reply::Reply;
 use crate::room::Scene;
 use crate::room::places_within;
+use calls::state::State;
 use factor::state::Held;
-use factor::state::State;
 use leaves::norm::Ranges;
 use lines::part::doubles_within;
 use lines::put::double;
@@ -107,10 +107,21 @@ fn row_of_numbers(title: &[u8], v: &[usize], text: &mut [u8], at: usize) -> usiz
     put::bytes(b"\n", text, b)
 }
 
+// Nothing where there are none.
+fn marks(k: u16, text: &mut [u8], at: usize) -> usize {
+    if k == 0 {
+        return at;
+    }
+    number(k as usize, text, at)
+}
+
 fn state(st: State, text: &mut [u8], at: usize) -> usize {
     let held = st.held;
     let row = [st.m, st.n, held_number(held)];
-    row_of_numbers(b"state", &row, text, at)
+    let a = put::bytes(b"state", text, at);
+    let b = numbers(&row, text, a);
+    let c = marks(st.marks, text, b);
+    put::bytes(b"\n", text, c)
 }
 
 // The lent rooms, which are exactly as long as they were lent.

@@ -1,22 +1,22 @@
 // What an item answers.
 use crate::room;
+use calls::state::FactorTold;
+use calls::state::GradientTold;
+use calls::state::MeasuredTold;
+use calls::state::PlaceTold;
+use calls::state::SearchTold;
+use calls::state::State;
+use calls::state::Told;
+use calls::state::TruthTold;
 use factor::answer::Truth;
-use factor::state::FactorTold;
-use factor::state::State;
-use factor::state::Told;
 use leaves::norm::Ranges;
 use leaves::reply::Done;
 use leaves::reply::Measured;
 use leaves::reply::Place;
 use leaves::reply::Ranged;
 use measures::gradient::Gradient;
-use measures::measures::GradientTold;
-use measures::measures::MeasuredTold;
-use measures::measures::PlaceTold;
-use measures::measures::TruthTold;
 use measures::scaling::Scaling;
 use search::trust_region::Found;
-use search::trust_region::SearchTold;
 
 // The values of a call, or its refusal. The last three are for an item that is no call, or that is not played.
 pub(crate) enum Reply {

@@ -4,7 +4,7 @@ use crate::reply::Extra;
 use crate::reply::of_scaling;
 use crate::reply::unplayed;
 use crate::room;
-use factor::state::State;
+use calls::state::State;
 use lines::scan::doubles;
 use lines::scan::word;
 use measures::scaling::Mode;
@@ -38,7 +38,7 @@ pub(crate) fn scale(s: &[u8], st: State, store: &mut [f64]) -> After {
     }
     let a = f.len;
     let b = g.len;
-    let t = measures::update_diag::update_diag(
+    let t = calls::update_diag::update_diag(
         st,
         store,
         mode_of(mode.value),

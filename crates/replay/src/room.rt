@@ -1,6 +1,6 @@
 // The program's rooms. They hold the rules' largest problem, 128 residuals and 16 parameters, with a surplus.
+use calls::state::State;
 use factor::state::Held;
-use factor::state::State;
 ghost use Rattle.text.specs.inner.Part.{Part};
 
 // How long each lent room is.
@@ -72,11 +72,20 @@ pub(crate) fn places_within(v: &[usize], n: usize) -> usize
     if n < v.len() { n } else { v.len() }
 }
 
+// Marks as a script has them; whoever calls has tested that they are sixteen bits.
+pub(crate) fn marks_of(k: u64) -> u16 {
+    if 65535 < k {
+        return 0;
+    }
+    k as u16
+}
+
 pub(crate) fn empty() -> State {
     State {
         m: 0,
         n: 0,
         held: Held::Empty,
+        marks: 0,
     }
 }
 

@@ -1,15 +1,18 @@
 // One problem after the other, all in the same rooms.
 use crate::make::fill;
 use crate::room;
-use factor::state::State;
+use calls::state::State;
 use lines::part::doubles_within;
 use search::trust_region::Found;
 use std::num::wrapping_add_usize;
 use std::num::wrapping_sub_usize;
 
+// Of the drawn columns the first n are factored, those with a mark frozen.
 pub(crate) struct Task {
     pub(crate) m: usize,
     pub(crate) n: usize,
+    pub(crate) drawn: usize,
+    pub(crate) marks: u16,
     pub(crate) mode: usize,
 }
 
@@ -57,7 +60,7 @@ fn multiply(v: &mut [f64], diag: &[f64]) {
 
 // A tenth of the undamped scaled norm.
 fn radius_of(st: State, store: &mut [f64], order: &[usize], diag: &[f64], step: &mut [f64]) -> f64 {
-    factor::least_squares::solve_with_zero_diagonal(st, store, order, step);
+    calls::least_squares::solve_with_zero_diagonal(st, store, order, step);
     multiply(step, diag);
     let s = leaves::norm::enorm(step);
     s.value * 0.1
@@ -71,7 +74,7 @@ fn seek(
     radius: f64,
     step: &mut [f64],
 ) -> f64 {
-    let told = search::trust_region::determine_lambda_and_parameter_update(
+    let told = calls::trust_region::determine_lambda_and_parameter_update(
         st,
         store,
         order,
@@ -101,7 +104,7 @@ fn further(
     }
     scale(st.n, store, diag);
     if mode == 4 {
-        factor::least_squares::solve_with_diagonal(st, store, order, diag, step);
+        calls::least_squares::solve_with_diagonal(st, store, order, diag, step);
         return at(step, 0);
     }
     let radius = radius_of(st, store, order, diag, step);
@@ -127,7 +130,16 @@ fn factored(
     diag: &mut [f64],
     step: &mut [f64],
 ) -> f64 {
-    let told = factor::pivoted_qr::pivoted_qr(t.m, t.n, jacobian, residuals, store, order, bench);
+    let told = calls::pivoted_qr::pivoted_qr(
+        t.m,
+        t.n,
+        t.marks,
+        jacobian,
+        residuals,
+        store,
+        order,
+        bench,
+    );
     let x = corner(t.n, store);
     x + further(t.mode, told.state, store, order, diag, step)
 }
@@ -186,7 +198,7 @@ pub(crate) fn all(t: Task, calls: usize, y: Tally) -> f64 {
     let mut bench = room::bench();
     let mut diag = room::vector();
     let mut step = room::vector();
-    let a = doubles_within(&jacobian, product(t.m, t.n));
+    let a = doubles_within(&jacobian, product(t.m, t.drawn));
     let b = doubles_within(&residuals, t.m);
     let c = doubles_within(&diag, t.n);
     let d = doubles_within(&step, t.n);

@@ -1,7 +1,8 @@
 //! What both workings of document 01 are asked: the calls in plain slices, their answers, and the state.
 //!
 //! A refusal is `Err(number)`. Lent slices may be longer than needed; the surplus is not touched. Every call that
-//! takes a state hands one back.
+//! takes a state hands one back. Each call answers as on the problem without the frozen columns (02, #108): its
+//! vectors of n entries have one for each column, frozen ones too.
 
 /// What a store holds below its diagonal and in l_diag.
 #[derive(Clone, Copy, PartialEq, Eq, Debug)]
@@ -17,13 +18,32 @@ pub struct State {
     pub m: usize,
     pub n: usize,
     pub held: Held,
+    /// "One mark for each column, given at factoring" (02, #108): column 0 is the most significant bit, set for frozen.
+    pub marks: u16,
 }
 
+/// "An empty state has no marks" (02, #108).
 pub const EMPTY: State = State {
     m: 0,
     n: 0,
     held: Held::Empty,
+    marks: 0,
 };
+
+/// Whether marks have column k frozen. No column from 16 on has a mark.
+pub fn frozen(marks: u16, k: usize) -> bool {
+    k < 16 && marks & (0x8000 >> k) != 0
+}
+
+/// How many of n columns are free.
+pub fn free(marks: u16, n: usize) -> usize {
+    (0..n).filter(|k| !frozen(marks, *k)).count()
+}
+
+/// "A mark past n": what refusal 2 is given for too (02, #108).
+pub fn mark_past(marks: u16, n: usize) -> bool {
+    (n..16).any(|k| frozen(marks, k))
+}
 
 /// Which scaling call is meant: the first alone reads `x` and the step bound, and gives xnorm and radius.
 #[derive(Clone, Copy, PartialEq, Eq, Debug)]
@@ -104,6 +124,7 @@ pub trait Engine {
         &self,
         m: usize,
         n: usize,
+        marks: u16,
         jacobian: &[f64],
         residuals: &[f64],
         store: &mut [f64],
@@ -135,7 +156,8 @@ pub trait Engine {
         out: &mut [f64],
     ) -> (Result<(), u8>, State);
     /// The held call `mul_qt_b` of `CholeskyFactor`. It takes no order list.
-    fn mul_qt_b(&self, state: State, store: &mut [f64], out: &mut [f64]) -> (Result<(), u8>, State);
+    fn mul_qt_b(&self, state: State, store: &mut [f64], out: &mut [f64])
+    -> (Result<(), u8>, State);
     fn max_a_t_b_scaled(
         &self,
         state: State,
@@ -256,7 +278,7 @@ pub struct Run {
 }
 
 pub trait Traced {
-    /// `None` where the search is refused 2 to 7.
+    /// `None` where the search is refused 2 to 7 or 9.
     fn run(
         &self,
         state: State,
@@ -266,6 +288,6 @@ pub trait Traced {
         radius: f64,
         lambda: f64,
     ) -> Option<Run>;
-    /// The norms that a factoring works out, in their order; `None` where it is refused 2, 3 or 6 for the Jacobian.
-    fn norms(&self, m: usize, n: usize, jacobian: &[f64]) -> Option<Vec<Measured>>;
+    /// The norms that a factoring works out, in their order; `None` where it is refused 2, 3 or 6 for the Jacobian, or 9.
+    fn norms(&self, m: usize, n: usize, marks: u16, jacobian: &[f64]) -> Option<Vec<Measured>>;
 }

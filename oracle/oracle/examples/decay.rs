@@ -26,7 +26,9 @@ fn main() {
     for (r, sample) in residuals.iter_mut().zip(SAMPLES) {
         *r -= sample;
     }
-    println!("# The first step of a decay fit c(t) = c0 exp(-k t), worked out by oracle/oracle/examples/decay.rs");
+    println!(
+        "# The first step of a decay fit c(t) = c0 exp(-k t), worked out by oracle/oracle/examples/decay.rs"
+    );
     println!("# version 1, call 2, m {m}, n {n}");
     println!("{head:06X}");
     line("Jacobian, first column: by c0", &left);

@@ -6,12 +6,13 @@ use crate::pool::Pool;
 use crate::random::Random;
 use crate::script::Item;
 use crate::wanted;
-use crate::{make_calls, make_sheets};
+use crate::{make_calls, make_frozen, make_sheets};
 
 #[derive(Clone, Copy, PartialEq, Eq, Debug)]
 pub enum Kind {
     Calls,
     Factorings,
+    Frozen,
 }
 
 /// Draws one case.
@@ -22,6 +23,7 @@ impl Kind {
         match self {
             Kind::Calls => make_calls::sequence,
             Kind::Factorings => make_calls::factoring_alone,
+            Kind::Frozen => make_frozen::sequence,
         }
     }
 
@@ -29,6 +31,7 @@ impl Kind {
         match self {
             Kind::Calls => wanted::wanted_of_calls(),
             Kind::Factorings => wanted::wanted_of_factorings(),
+            Kind::Frozen => wanted::wanted_of_frozen(),
         }
     }
 }

@@ -77,8 +77,8 @@ impl Asked<'_> {
         )
     }
 
-    /// The correction that would follow a trial of this lambda, with what its norm sees, found by calls; none where these
-    /// refuse on the way. A step of zero is divided by its norm, so that all is NaN from there on.
+    /// The correction that would follow a trial of this lambda in a search without marks, with what its norm sees, found by
+    /// calls; none where these refuse on the way. A step of zero is divided by its norm, so that all is NaN from there on.
     pub fn correction(&self, engine: &dyn Working, lambda: f64) -> Option<(f64, Ranges)> {
         let n = self.state.n;
         let diag = &self.diag[..n];

@@ -1,5 +1,6 @@
 //! Both workings on the same cases, every answer, state and room bit for bit.
 
+use crate::cases::{self, Kind};
 use crate::coverage::Coverage;
 use crate::engines::{PLAIN, SHOWN};
 use crate::leaf::Leaf;
@@ -44,10 +45,17 @@ pub fn same_run(a: &Option<Run>, b: &Option<Run>) -> bool {
 
 /// The norms of a factoring, each with its ranges (02, #106).
 fn same_norms(item: &Item) -> bool {
-    let Item::Factor { m, n, jacobian, .. } = item else {
+    let Item::Factor {
+        m,
+        n,
+        marks,
+        jacobian,
+        ..
+    } = item
+    else {
         return true;
     };
-    SHOWN.norms(*m, *n, jacobian) == PLAIN.norms(*m, *n, jacobian)
+    SHOWN.norms(*m, *n, *marks, jacobian) == PLAIN.norms(*m, *n, *marks, jacobian)
 }
 
 fn sheet(bytes: &[u8], tally: &mut Tally, coverage: &mut Coverage) {
@@ -115,6 +123,15 @@ pub fn leaves(count: u64, seed: u64) -> Tally {
     };
     make_leaves::edges().into_iter().for_each(&mut one);
     (0..count).for_each(|_| one(make_leaves::random(&mut rng)));
+    tally
+}
+
+/// The sequences with frozen columns (02, #108), a kind of their own: those without keep their draw.
+pub fn frozen(count: u64, seed: u64, coverage: &mut Coverage) -> Tally {
+    let mut tally = Tally::default();
+    for items in cases::scripts(Kind::Frozen, count, seed) {
+        sequence(&items, &mut tally, coverage);
+    }
     tally
 }
 

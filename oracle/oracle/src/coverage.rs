@@ -2,6 +2,7 @@
 
 use crate::classes::{Asked, CLASSES};
 use crate::engines::Working;
+use crate::frozen_rows::{self, Marked};
 use crate::replies::{Answer, Reply, Told};
 use crate::rooms::Rooms;
 use crate::script::Item;
@@ -16,7 +17,7 @@ pub struct Coverage {
     counts: BTreeMap<String, u64>,
 }
 
-fn name(item: &Item) -> &'static str {
+pub fn name(item: &Item) -> &'static str {
     match item {
         Item::Factor { .. } => "factor",
         Item::Zero => "zero solve",
@@ -133,8 +134,15 @@ impl Coverage {
         }
     }
 
-    /// One call: the rooms before it, and its reply.
+    /// One call: the rooms before it, and its reply. One with marks has rows of its own (02, #108).
     pub fn call(&mut self, engine: &dyn Working, rooms: &Rooms, item: &Item, reply: &Reply) {
+        match Marked::of(rooms, item) {
+            Some(marked) => self.all(frozen_rows::of_call(engine, &marked, reply)),
+            None => self.unmarked(engine, rooms, item, reply),
+        }
+    }
+
+    fn unmarked(&mut self, engine: &dyn Working, rooms: &Rooms, item: &Item, reply: &Reply) {
         let call = name(item);
         let before = rooms.state;
         if let Some(asked) = rooms.asked(item) {

@@ -11,9 +11,9 @@ use std::io::{self, BufRead, BufWriter, Write};
 use std::process::ExitCode;
 
 const USAGE: &str = "usage:
-  oracle make sheets|calls|factorings COUNT SEED
+  oracle make sheets|calls|factorings|frozen COUNT SEED
   oracle make sample
-  oracle cover sheets|calls|factorings COUNT SEED [--plain]
+  oracle cover sheets|calls|factorings|frozen COUNT SEED [--plain]
   oracle leaves COUNT SEED [--plain]
   oracle sheets|calls|trace [--plain]    cases on standard input
   oracle compare COUNT SEED
@@ -110,7 +110,7 @@ fn compare(count: u64, seed: u64) -> Verdict {
         "{} leaf vectors compared, {} differ",
         leaves.compared, leaves.differ
     );
-    let (sheets, sequences, coverage) = compare::sheets_and_sequences(count, count / 2, seed);
+    let (sheets, sequences, mut coverage) = compare::sheets_and_sequences(count, count / 2, seed);
     println!(
         "{} sheets compared, {} differ",
         sheets.compared, sheets.differ
@@ -120,9 +120,15 @@ fn compare(count: u64, seed: u64) -> Verdict {
         "{n} sequences ({m} calls) compared, {} differ",
         sequences.differ
     );
+    let frozen = compare::frozen(count / 2, seed, &mut coverage);
+    let (n, m) = (frozen.compared, frozen.calls);
+    println!(
+        "{n} sequences with frozen columns ({m} calls) compared, {} differ",
+        frozen.differ
+    );
     print!("{}", coverage.text());
-    let differ = leaves.differ + sheets.differ + sequences.differ;
-    let compared = leaves.compared + sheets.compared + sequences.compared;
+    let differ = leaves.differ + sheets.differ + sequences.differ + frozen.differ;
+    let compared = leaves.compared + sheets.compared + sequences.compared + frozen.compared;
     println!("{compared} compared, {differ} differ");
     Ok(differ == 0)
 }
@@ -145,6 +151,7 @@ fn scripted(kind: &str) -> Result<Kind, String> {
     match kind {
         "calls" => Ok(Kind::Calls),
         "factorings" => Ok(Kind::Factorings),
+        "frozen" => Ok(Kind::Frozen),
         _ => Err(USAGE.to_string()),
     }
 }

@@ -11,14 +11,15 @@ use crate::script::{Item, mode_of};
 use api::{Held, State};
 
 /// What the calls of one sequence are drawn from.
-struct Scene {
-    example: Example,
-    store: usize,
-    order: usize,
+pub struct Scene {
+    pub example: Example,
+    pub marks: u16,
+    pub store: usize,
+    pub order: usize,
 }
 
-fn factoring(rng: &mut Random, e: &Example) -> Item {
-    let p = &e.problem;
+pub fn factoring(rng: &mut Random, scene: &Scene) -> Item {
+    let p = &scene.example.problem;
     let (mut m, mut n) = (p.m, p.n);
     match rng.below(100) {
         0..2 => m = rng.pick(&[0, 129, 1000, usize::MAX]),
@@ -28,6 +29,7 @@ fn factoring(rng: &mut Random, e: &Example) -> Item {
     Item::Factor {
         m,
         n,
+        marks: scene.marks,
         jacobian: argument(rng, &p.jacobian),
         residuals: argument(rng, &p.residuals),
     }
@@ -107,7 +109,8 @@ fn odd_state(rng: &mut Random, scene: &Scene) -> Item {
     } else {
         p.n
     };
-    Item::State(State { m, n, held })
+    let marks = scene.marks;
+    Item::State(State { m, n, held, marks })
 }
 
 /// Any place, or one of work, which calls must clear, or a column norm, which a scaling judges.
@@ -138,9 +141,15 @@ fn meddle(rng: &mut Random, scene: &Scene) -> Item {
     }
 }
 
-fn call(rng: &mut Random, scene: &Scene) -> Item {
+pub fn call(rng: &mut Random, scene: &Scene) -> Item {
+    let which = rng.below(100);
+    call_of(rng, scene, which)
+}
+
+/// The call that a number below 100 stands for.
+pub fn call_of(rng: &mut Random, scene: &Scene, which: usize) -> Item {
     let n = scene.example.problem.n;
-    match rng.below(100) {
+    match which {
         0..14 => Item::Zero,
         14..28 => Item::Damped(diagonal(rng, n)),
         28..42 => Item::Solve(vector(rng, n)),
@@ -159,12 +168,12 @@ fn call(rng: &mut Random, scene: &Scene) -> Item {
         89..92 => Item::Determined,
         92..94 => Item::NonSingular,
         94..99 => meddle(rng, scene),
-        _ => factoring(rng, &scene.example),
+        _ => factoring(rng, scene),
     }
 }
 
 /// More than one in twenty has at least 64 rows and 8 columns.
-fn example(rng: &mut Random, pool: &Pool) -> Example {
+pub fn example(rng: &mut Random, pool: &Pool) -> Example {
     let problem = match rng.below(100) {
         0..25 => return pool.draw(rng),
         25..35 => apart::large(rng),
@@ -181,7 +190,7 @@ fn example(rng: &mut Random, pool: &Pool) -> Example {
     }
 }
 
-fn lend(rng: &mut Random, example: Example, items: &mut Vec<Item>) -> Scene {
+pub fn lend(rng: &mut Random, example: Example, marks: u16, items: &mut Vec<Item>) -> Scene {
     let (m, n) = (example.problem.m, example.problem.n);
     let (store, order) = (length(rng, n * n + 4 * n), length(rng, n));
     let (bench, out) = (length(rng, m * n + m), length(rng, n));
@@ -194,6 +203,7 @@ fn lend(rng: &mut Random, example: Example, items: &mut Vec<Item>) -> Scene {
     });
     Scene {
         example,
+        marks,
         store,
         order,
     }
@@ -212,6 +222,7 @@ fn claim(rng: &mut Random, scene: &Scene, items: &mut Vec<Item>) {
         m: scene.example.problem.m,
         n,
         held,
+        marks: scene.marks,
     }));
 }
 
@@ -219,9 +230,9 @@ fn claim(rng: &mut Random, scene: &Scene, items: &mut Vec<Item>) {
 fn calls(rng: &mut Random, pool: &Pool, aside: &mut Random) -> Vec<Item> {
     let mut items = Vec::new();
     let drawn = example(rng, pool);
-    let scene = lend(rng, drawn, &mut items);
+    let scene = lend(rng, drawn, 0, &mut items);
     match rng.below(100) {
-        0..90 => items.push(factoring(rng, &scene.example)),
+        0..90 => items.push(factoring(rng, &scene)),
         90..97 => claim(rng, &scene, &mut items),
         _ => {}
     }
@@ -243,8 +254,8 @@ fn calls(rng: &mut Random, pool: &Pool, aside: &mut Random) -> Vec<Item> {
 fn factoring_in_rooms(rng: &mut Random, pool: &Pool) -> Vec<Item> {
     let mut items = Vec::new();
     let drawn = example(rng, pool);
-    let scene = lend(rng, drawn, &mut items);
-    items.push(factoring(rng, &scene.example));
+    let scene = lend(rng, drawn, 0, &mut items);
+    items.push(factoring(rng, &scene));
     items
 }
 

@@ -20,6 +20,7 @@ fn factored(rng: &mut Random, m: usize, n: usize, jacobian: Vec<f64>) -> Item {
     Item::Factor {
         m,
         n,
+        marks: 0,
         jacobian,
         residuals,
     }
@@ -44,7 +45,11 @@ fn diagonal(rng: &mut Random, m: usize, n: usize, finite: bool) -> Vec<f64> {
         0..3 if !finite => rng.pick(&wrong),
         _ => rng.pick(&beside),
     };
-    let first = if finite || rng.percent(80) { first } else { later(rng) };
+    let first = if finite || rng.percent(80) {
+        first
+    } else {
+        later(rng)
+    };
     let mut diagonal: Vec<f64> = (0..n).map(|_| later(rng)).collect();
     diagonal[0] = first;
     diagonal
@@ -60,10 +65,15 @@ fn claimed(rng: &mut Random, m: usize, n: usize) -> Vec<Item> {
     let diagonal = diagonal(rng, m, n, false);
     let cells = diagonal.iter().enumerate();
     let cells = cells.map(|(j, d)| Item::Store(j * n + j, *d));
-    std::iter::once(Item::State(State { m, n, held }))
-        .chain(places)
-        .chain(cells)
-        .collect()
+    std::iter::once(Item::State(State {
+        m,
+        n,
+        held,
+        marks: 0,
+    }))
+    .chain(places)
+    .chain(cells)
+    .collect()
 }
 
 pub fn items(rng: &mut Random) -> Vec<Item> {

@@ -252,6 +252,7 @@ pub fn factored(p: &Problem) -> Factored {
     let (_, state) = PLAIN.factor(
         p.m,
         p.n,
+        0,
         &p.jacobian,
         &p.residuals,
         store,

@@ -129,7 +129,7 @@ fn as_it_is(rng: &mut Random, items: &mut Vec<Item>) {
     }
 }
 
-fn scaling(rng: &mut Random, mode: usize, x: Vec<f64>) -> Item {
+pub fn scaling(rng: &mut Random, mode: usize, x: Vec<f64>) -> Item {
     Item::Scale {
         mode: mode_of(mode),
         diag: (0..x.len()).map(|_| rng.pick(&[1.0, 2.0])).collect(),
@@ -143,6 +143,7 @@ fn push(rng: &mut Random, problem: &Problem, items: &mut Vec<Item>) {
     items.push(Item::Factor {
         m: problem.m,
         n: problem.n,
+        marks: 0,
         jacobian: problem.jacobian.clone(),
         residuals: problem.residuals.clone(),
     });

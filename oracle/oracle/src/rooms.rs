@@ -153,10 +153,11 @@ impl Rooms {
             Item::Factor {
                 m,
                 n,
-                jacobian,
+                marks,
+                jacobian: j,
                 residuals,
             } => {
-                let (r, s) = engine.factor(*m, *n, jacobian, residuals, store, order, bench);
+                let (r, s) = engine.factor(*m, *n, *marks, j, residuals, store, order, bench);
                 (r.map(|ranges| Answer::with(Told::Done, ranges)), s)
             }
             Item::Zero => {
@@ -227,6 +228,9 @@ impl Rooms {
                 held_number(self.state.held) as usize,
             ],
         );
+        if self.state.marks != 0 {
+            push_numbers(out, &[usize::from(self.state.marks)]);
+        }
         out.push_str("\nstore");
         push_doubles(out, &self.store);
         out.push_str("\norder");

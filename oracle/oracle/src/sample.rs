@@ -5,6 +5,7 @@ use crate::coverage::Coverage;
 use crate::engines::PLAIN;
 use crate::make_calls::{bare_factoring, bare_sequence};
 use crate::random::Random;
+use crate::sample_frozen;
 use crate::sample_ranges;
 use crate::script::Item;
 use crate::wanted::wanted_but_ranges;
@@ -21,6 +22,17 @@ const LONG: usize = 120;
 const LONG_KEPT: usize = 2;
 
 pub fn case(m: usize, n: usize, jacobian: &[f64], residuals: &[f64], calls: &[Item]) -> Vec<Item> {
+    marked_case(m, n, 0, jacobian, residuals, calls)
+}
+
+pub fn marked_case(
+    m: usize,
+    n: usize,
+    marks: u16,
+    jacobian: &[f64],
+    residuals: &[f64],
+    calls: &[Item],
+) -> Vec<Item> {
     let rooms = Item::Rooms {
         store: n * n + 4 * n,
         order: n,
@@ -31,6 +43,7 @@ pub fn case(m: usize, n: usize, jacobian: &[f64], residuals: &[f64], calls: &[It
     let factor = Item::Factor {
         m,
         n,
+        marks,
         jacobian: jacobian.to_vec(),
         residuals: residuals.to_vec(),
     };
@@ -148,8 +161,22 @@ fn held() -> Vec<Vec<Item>> {
     let refused = || search(&[1.0], 0.0, 0.0);
     let three = |calls: &[Item]| case(1, 1, &[3.0], &[6.0], calls);
     vec![
-        three(&[four(), Item::Mul, refused(), Item::Mul, Item::Determined, Item::Mul]),
-        three(&[four(), Item::Zero, Item::Mul, four(), search(&[1.0], 2.0, 0.0), Item::Mul]),
+        three(&[
+            four(),
+            Item::Mul,
+            refused(),
+            Item::Mul,
+            Item::Determined,
+            Item::Mul,
+        ]),
+        three(&[
+            four(),
+            Item::Zero,
+            Item::Mul,
+            four(),
+            search(&[1.0], 2.0, 0.0),
+            Item::Mul,
+        ]),
         three(&[Item::Mul, Item::Solve(vec![1.0]), Item::Mul]),
     ]
 }
@@ -185,7 +212,7 @@ fn near() -> Vec<Vec<Item>> {
     ]
 }
 
-fn is_long(items: &[Item]) -> bool {
+pub fn is_long(items: &[Item]) -> bool {
     items
         .iter()
         .any(|item| matches!(item, Item::Rooms { store, bench, .. } if store + bench > LONG))
@@ -234,6 +261,22 @@ fn sequences() -> Vec<Vec<Item>> {
 pub fn cases() -> Vec<Vec<Item>> {
     let mut factorings = thinned(drawn(bare_factoring, DRAWN, 1), |_| true);
     factorings.truncate(FACTORINGS);
-    let fixed = [examples(), limits(), witnesses(), going_on(), held(), near()].concat();
-    [fixed, factorings, sequences(), sample_ranges::cases()].concat()
+    let fixed = [
+        examples(),
+        limits(),
+        witnesses(),
+        going_on(),
+        held(),
+        near(),
+    ]
+    .concat();
+    let ranges = sample_ranges::cases();
+    [
+        fixed,
+        factorings,
+        sequences(),
+        ranges,
+        sample_frozen::cases(),
+    ]
+    .concat()
 }

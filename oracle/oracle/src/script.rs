@@ -16,6 +16,7 @@ pub enum Item {
     Factor {
         m: usize,
         n: usize,
+        marks: u16,
         jacobian: Vec<f64>,
         residuals: Vec<f64>,
     },
@@ -71,14 +72,33 @@ fn numbered(t: &mut Tokens) -> Result<Vec<f64>, String> {
     t.doubles(len)
 }
 
-fn factor(t: &mut Tokens) -> Result<Item, String> {
-    let (m, n, jlen, rlen) = (t.number()?, t.number()?, t.number()?, t.number()?);
+/// `F` has no marks, `K` has them after the sizes (02, #108).
+fn factor(t: &mut Tokens, marked: bool) -> Result<Item, String> {
+    let (m, n) = (t.number()?, t.number()?);
+    let marks = if marked { marks(t)? } else { 0 };
+    let (jlen, rlen) = (t.number()?, t.number()?);
     Ok(Item::Factor {
         m,
         n,
+        marks,
         jacobian: t.doubles(jlen)?,
         residuals: t.doubles(rlen)?,
     })
+}
+
+fn marks(t: &mut Tokens) -> Result<u16, String> {
+    let marks = t.bits()?;
+    u16::try_from(marks).map_err(|_| format!("more than 16 marks: {marks:X}"))
+}
+
+/// The marks are left out where there are none.
+fn state(t: &mut Tokens) -> Result<Item, String> {
+    Ok(Item::State(State {
+        m: t.number()?,
+        n: t.number()?,
+        held: choice(HELD, t.number()?)?,
+        marks: if t.is_at_end() { 0 } else { marks(t)? },
+    }))
 }
 
 fn scale(t: &mut Tokens) -> Result<Item, String> {
@@ -106,12 +126,9 @@ pub fn read(line: &str) -> Result<Item, String> {
     let mut t = Tokens::of(line);
     let item = match t.word()? {
         "R" => rooms(&mut t)?,
-        "F" => factor(&mut t)?,
-        "T" => Item::State(State {
-            m: t.number()?,
-            n: t.number()?,
-            held: choice(HELD, t.number()?)?,
-        }),
+        "F" => factor(&mut t, false)?,
+        "K" => factor(&mut t, true)?,
+        "T" => state(&mut t)?,
         "O" => Item::Order(t.number()?, t.number()?),
         "W" => Item::Store(t.number()?, t.double()?),
         "Z" => Item::Zero,
@@ -153,6 +170,13 @@ impl Line<'_> {
         }
         self
     }
+    /// Nothing where there are none, so that what has no marks reads as it did before there were any.
+    fn marks(&mut self, marks: u16) -> &mut Self {
+        if marks != 0 {
+            self.number(u64::from(marks));
+        }
+        self
+    }
     fn double(&mut self, x: f64) -> &mut Self {
         self.0.push(' ');
         push_double(self.0, x);
@@ -183,17 +207,21 @@ pub fn write(item: &Item, out: &mut String) {
         Item::Factor {
             m,
             n,
+            marks,
             jacobian,
             residuals,
         } => line
-            .begin('F')
-            .numbers(&[*m, *n, jacobian.len(), residuals.len()])
+            .begin(if *marks == 0 { 'F' } else { 'K' })
+            .numbers(&[*m, *n])
+            .marks(*marks)
+            .numbers(&[jacobian.len(), residuals.len()])
             .doubles(jacobian)
             .doubles(residuals),
         Item::State(s) => line
             .begin('T')
             .numbers(&[s.m, s.n])
-            .number(held_number(s.held)),
+            .number(held_number(s.held))
+            .marks(s.marks),
         Item::Order(k, v) => line.begin('O').numbers(&[*k, *v]),
         Item::Store(k, x) => line.begin('W').numbers(&[*k]).double(*x),
         Item::Zero => line.begin('Z'),

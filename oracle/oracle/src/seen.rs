@@ -126,7 +126,7 @@ fn by_m(engine: &dyn Working, m: usize, vectors: &[Vec<f64>]) -> Ranges {
 /// The rows of an answered factoring.
 pub fn of_factoring(engine: &dyn Working, m: usize, n: usize, jacobian: &[f64]) -> Vec<String> {
     let mut rows = Vec::new();
-    let Some(norms) = engine.norms(m, n, jacobian) else {
+    let Some(norms) = engine.norms(m, n, 0, jacobian) else {
         return rows;
     };
     let seen = all(norms.iter().map(|norm| norm.ranges));

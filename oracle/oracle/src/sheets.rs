@@ -124,6 +124,7 @@ pub fn ready(engine: &dyn Working, f: &Fields) -> Option<Ready> {
     let (factored, state) = engine.factor(
         m,
         n,
+        0,
         jacobian,
         residuals,
         &mut r.store,

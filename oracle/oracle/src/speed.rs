@@ -96,7 +96,7 @@ pub fn sum(engine: &dyn Working, task: &Task) -> f64 {
             continue;
         }
         let Rooms { store, order, .. } = &mut rooms;
-        let (_, state) = engine.factor(m, n, &jacobian, &residuals, store, order, &mut bench);
+        let (_, state) = engine.factor(m, n, 0, &jacobian, &residuals, store, order, &mut bench);
         let corner = store[n * n - 1] + store[n * n];
         sum += corner + rooms.further(engine, state, mode);
     }

@@ -98,6 +98,10 @@ impl<'a> Tokens<'a> {
         (0..count).map(|_| self.double()).collect()
     }
 
+    pub fn is_at_end(&self) -> bool {
+        self.rest.clone().next().is_none()
+    }
+
     pub fn end(&mut self) -> Result<(), String> {
         match self.rest.next() {
             None => Ok(()),

@@ -1,10 +1,11 @@
 //! What a set of cases must cover.
 
 use crate::classes::CLASSES;
+use crate::frozen_rows;
 use crate::seen;
 
 /// Every refusal that each call can give, by document 01's table.
-const REFUSALS: [(&str, &[u8]); 11] = [
+pub const REFUSALS: [(&str, &[u8]); 11] = [
     ("factor", &[2, 3, 6, 8]),
     ("zero solve", &[2, 3, 4, 5, 8]),
     ("damped solve", &[2, 3, 4, 5, 6, 8]),
@@ -95,6 +96,11 @@ fn answers_of_factorings() -> Vec<String> {
 
 pub fn wanted_of_factorings() -> Vec<String> {
     [answers_of_factorings(), seen::wanted_of_factorings()].concat()
+}
+
+/// What the cases with frozen columns show (02, #108).
+pub fn wanted_of_frozen() -> Vec<String> {
+    frozen_rows::wanted()
 }
 
 pub fn wanted_of_calls() -> Vec<String> {

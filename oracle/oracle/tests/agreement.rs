@@ -1,5 +1,6 @@
 //! Both workings give the same bits, and the cases reach everything that document 01 tells apart.
 
+use oracle::cases::{self, Kind};
 use oracle::compare;
 use oracle::coverage::Coverage;
 use oracle::engines::PLAIN;
@@ -7,7 +8,7 @@ use oracle::pool::Pool;
 use oracle::random::Random;
 use oracle::rooms::Rooms;
 use oracle::sheets::Fields;
-use oracle::wanted::{wanted_of_calls, wanted_of_sheets};
+use oracle::wanted::{wanted_of_calls, wanted_of_frozen, wanted_of_sheets};
 use oracle::{make_calls, make_sheets, script};
 
 #[test]
@@ -23,6 +24,15 @@ fn sheets_and_sequences_agree() {
     assert_eq!((sheets.compared, sheets.differ), (2000, 0));
     assert_eq!((sequences.compared, sequences.differ), (1000, 0));
     assert!(sequences.calls > 5000);
+}
+
+/// 02, #108: a third of these has no mark.
+#[test]
+fn frozen_sequences_agree_and_cover() {
+    let mut coverage = Coverage::default();
+    let tally = compare::frozen(3000, 1, &mut coverage);
+    assert_eq!((tally.compared, tally.differ), (3000, 0));
+    assert_eq!(coverage.missing(&wanted_of_frozen()), Vec::<String>::new());
 }
 
 #[test]
@@ -57,10 +67,8 @@ fn no_quotient_gives_epsmch_itself() {
 /// A script says all that its items say, so that another program that reads it is asked the same.
 #[test]
 fn scripts_read_back() {
-    let pool = Pool::hunt(5);
-    let mut rng = Random::new(5);
-    for _ in 0..200 {
-        let items = make_calls::sequence(&mut rng, &pool);
+    let of_calls = cases::scripts(Kind::Calls, 200, 5);
+    for items in of_calls.chain(cases::scripts(Kind::Frozen, 200, 5)) {
         let text = script::text(&items);
         let (mut a, mut b) = (Rooms::none(), Rooms::none());
         for (item, line) in items.iter().zip(text.lines()) {

@@ -30,7 +30,7 @@ fn factored<'a>(
     let (mut store, mut order) = (vec![7.0; n * n + 4 * n], vec![9; n]);
     let mut bench = vec![7.0; m * n + m];
     let (result, state) = engine.factor(
-        m, n, jacobian, residuals, &mut store, &mut order, &mut bench,
+        m, n, 0, jacobian, residuals, &mut store, &mut order, &mut bench,
     );
     assert!(result.is_ok());
     assert_eq!(
@@ -38,7 +38,8 @@ fn factored<'a>(
         State {
             m,
             n,
-            held: Held::Nothing
+            held: Held::Nothing,
+            marks: 0,
         }
     );
     assert!(bench.iter().all(|x| x.to_bits() == 0));
@@ -163,7 +164,7 @@ fn the_most_rows() {
         factored(e, 128, 1, &[1.0; 128], &[1.0; 128]);
         let (mut store, mut order, mut bench) = ([7.0; 5], [9], [7.0; 300]);
         let v = [1.0; 129];
-        let (result, state) = e.factor(129, 1, &v, &v, &mut store, &mut order, &mut bench);
+        let (result, state) = e.factor(129, 1, 0, &v, &v, &mut store, &mut order, &mut bench);
         assert_eq!((result, state), (Err(2), EMPTY));
         assert_eq!((store, order, bench), ([7.0; 5], [9], [7.0; 300]));
     });

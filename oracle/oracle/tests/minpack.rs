@@ -18,6 +18,7 @@ fn without_minpacks_readings_it_is_document_01s() {
         let (done, _) = SHOWN.factor(
             m,
             n,
+            0,
             &p.jacobian,
             &p.residuals,
             &mut store,

@@ -84,9 +84,9 @@ fn of_factoring(e: &dyn Working, m: usize, jacobian: &[f64]) -> (Ranges, Ranges)
     let mut bench = vec![7.0; m * n + m];
     let residuals = vec![1.0; m];
     let (told, _) = e.factor(
-        m, n, jacobian, &residuals, &mut store, &mut order, &mut bench,
+        m, n, 0, jacobian, &residuals, &mut store, &mut order, &mut bench,
     );
-    let norms = e.norms(m, n, jacobian).unwrap();
+    let norms = e.norms(m, n, 0, jacobian).unwrap();
     let told = told.unwrap();
     assert_eq!(told, all(&norms));
     (told, all(&norms[..n]))
@@ -104,7 +104,7 @@ fn small_entries_that_reflections_leave() {
         let anew = [u, u, u, -u, u * by, u * by];
         assert_eq!(of_factoring(e, 2, &anew), (SMALL, NEITHER));
         let from = |m: usize, jacobian: &[f64]| -> Vec<Of> {
-            let norms = e.norms(m, jacobian.len() / m, jacobian).unwrap();
+            let norms = e.norms(m, jacobian.len() / m, 0, jacobian).unwrap();
             let small = norms.iter().filter(|norm| norm.ranges.small);
             small.map(|norm| norm.of).collect()
         };
@@ -146,8 +146,8 @@ fn a_factoring_tells_the_ranges_of_its_norms() {
     let mut rng = Random::new(6);
     for _ in 0..3000 {
         let p = problem::any(&mut rng);
-        let norms = SHOWN.norms(p.m, p.n, &p.jacobian).unwrap();
-        assert_eq!(PLAIN.norms(p.m, p.n, &p.jacobian), Some(norms.clone()));
+        let norms = SHOWN.norms(p.m, p.n, 0, &p.jacobian).unwrap();
+        assert_eq!(PLAIN.norms(p.m, p.n, 0, &p.jacobian), Some(norms.clone()));
         let (columns, later) = norms.split_at(p.n);
         assert!(columns.iter().all(|norm| norm.of == Of::Column));
         let pivots = later.iter().filter(|norm| matches!(norm.of, Of::Pivot(_)));

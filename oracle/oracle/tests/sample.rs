@@ -7,7 +7,7 @@ use oracle::coverage::Coverage;
 use oracle::engines::{PLAIN, SHOWN, Working};
 use oracle::rooms::Rooms;
 use oracle::script::Item;
-use oracle::wanted::wanted_of_calls;
+use oracle::wanted::{wanted_of_calls, wanted_of_frozen};
 use oracle::{sample, script};
 use std::sync::LazyLock;
 
@@ -73,6 +73,7 @@ fn the_sample_covers() {
     }
     assert!(without >= 500 && with >= 300, "{without} {with}");
     assert_eq!(all.missing(&wanted_of_calls()), Vec::<String>::new());
+    assert_eq!(all.missing(&wanted_of_frozen()), Vec::<String>::new());
 }
 
 /// The stored input is the sample, and the stored output is what both workings print for it.

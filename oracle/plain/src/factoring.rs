@@ -1,5 +1,6 @@
 //! Module 2 of document 01: `PivotedQR::new`, and the factoring call.
 
+use crate::frozen::Columns;
 use crate::leaves::{EPSMCH, all_finite, axpy, dot, enorm, imax, is_negative, max, square};
 use crate::measures::{all_seen, measured};
 use crate::residuals::transform;
@@ -7,7 +8,7 @@ use crate::room::{Room, needed, sizes};
 use crate::root::sqrt;
 use api::{EMPTY, Held, Measured, Of, Ranges, State};
 
-/// The bench: m*n places for the Jacobian's copy, column by column, then m for the residuals'.
+/// The bench: places for the copy of the Jacobian's free columns, one after the other, and m for the residuals'.
 struct Bench<'a> {
     m: usize,
     a: &'a mut [f64],
@@ -116,18 +117,16 @@ fn lay_r(m: usize, a: &[f64], r_diag: &[f64], room: &mut Room) {
     }
 }
 
+/// `small` is the store of the free columns alone; `order` is in the order that pivoting starts from.
 fn work_out(
     n: usize,
     bench: &mut Bench,
-    store: &mut [f64],
+    small: &mut [f64],
     order: &mut [usize],
 ) -> Result<Ranges, u8> {
     let m = bench.m;
     let mut told = Vec::new();
-    let mut room = Room::of(n, store);
-    for j in 0..n {
-        order[j] = j;
-    }
+    let mut room = Room::of(n, small);
     column_norms(m, bench.a, room.norms, &mut told);
     let r_diag = pivoted_qr(m, bench.a, room.norms, order, &mut told);
     transform(m, n, bench.a, bench.b, room.qt_b);
@@ -138,59 +137,91 @@ fn work_out(
     if finite { Ok(all_seen(&told)) } else { Err(8) }
 }
 
-/// The norms of a factoring that is not refused 2, 3 or 6 for its Jacobian.
-pub fn norms(m: usize, n: usize, jacobian: &[f64]) -> Option<Vec<Measured>> {
+/// The norms of a factoring that is not refused 2, 3 or 6 for its Jacobian, nor 9.
+pub fn norms(m: usize, n: usize, marks: u16, jacobian: &[f64]) -> Option<Vec<Measured>> {
     let fits = sizes(m, n).is_ok() && jacobian.len() >= m * n;
     if !fits || !all_finite(&jacobian[..m * n]) {
         return None;
     }
-    let mut a = jacobian[..m * n].to_vec();
-    let (mut norms, mut order) = (vec![0.0; n], vec![0; n]);
+    let columns = Columns::of(n, marks).and_then(Columns::some_free).ok()?;
+    let mut a = columns.taken_out(jacobian, m);
+    let (mut norms, mut order) = (vec![0.0; columns.free], vec![0; columns.free]);
     let mut told = Vec::new();
     column_norms(m, &a, &mut norms, &mut told);
     pivoted_qr(m, &mut a, &norms, &mut order, &mut told);
     Some(told)
 }
 
+/// Tests 2, 3, 6 and 9. A frozen column's numbers are read too (02, #108).
+fn check(
+    m: usize,
+    n: usize,
+    marks: u16,
+    numbers: [&[f64]; 2],
+    lengths: [usize; 3],
+) -> Result<Columns, u8> {
+    sizes(m, n)?;
+    let columns = Columns::of(n, marks)?;
+    let [jacobian, residuals] = numbers;
+    let [store, order, bench] = lengths;
+    let short = jacobian.len() < m * n || residuals.len() < m || bench < m * n + m;
+    if short || store < needed(n) || order < n {
+        return Err(3);
+    }
+    if !all_finite(&jacobian[..m * n]) || !all_finite(&residuals[..m]) {
+        return Err(6);
+    }
+    columns.some_free()
+}
+
+/// The free columns and the residuals in the bench, worked out there. All of it is +0 afterwards, what is past the free
+/// columns too.
+fn on_bench(
+    columns: &Columns,
+    [jacobian, residuals]: [&[f64]; 2],
+    bench: &mut [f64],
+    small: &mut [f64],
+    pivots: &mut [usize],
+) -> Result<Ranges, u8> {
+    let m = residuals.len();
+    let (a, b) = bench.split_at_mut(m * columns.n);
+    let a = &mut a[..m * columns.free];
+    a.copy_from_slice(&columns.taken_out(jacobian, m));
+    b.copy_from_slice(residuals);
+    let result = work_out(columns.free, &mut Bench { m, a, b }, small, pivots);
+    bench.fill(0.0);
+    result
+}
+
+/// "Needed store +0, order 0..n−1, state empty" where it is refused 8.
+#[allow(clippy::too_many_arguments)]
 pub fn factor(
     m: usize,
     n: usize,
+    marks: u16,
     jacobian: &[f64],
     residuals: &[f64],
     store: &mut [f64],
     order: &mut [usize],
     bench: &mut [f64],
 ) -> (Result<Ranges, u8>, State) {
-    if let Err(k) = sizes(m, n) {
-        return (Err(k), EMPTY);
+    let lengths = [store.len(), order.len(), bench.len()];
+    let columns = match check(m, n, marks, [jacobian, residuals], lengths) {
+        Ok(columns) => columns,
+        Err(k) => return (Err(k), EMPTY),
+    };
+    let mut pivots: Vec<usize> = (0..columns.free).collect();
+    let mut small = vec![0.0; needed(columns.free)];
+    let (bench, read) = (&mut bench[..m * n + m], [jacobian, &residuals[..m]]);
+    let result = on_bench(&columns, read, bench, &mut small, &mut pivots);
+    if result.is_err() {
+        small.fill(0.0);
+        pivots = (0..columns.free).collect();
     }
-    let short = jacobian.len() < m * n || residuals.len() < m || bench.len() < m * n + m;
-    if short || store.len() < needed(n) || order.len() < n {
-        return (Err(3), EMPTY);
-    }
-    let (jacobian, residuals) = (&jacobian[..m * n], &residuals[..m]);
-    if !all_finite(jacobian) || !all_finite(residuals) {
-        return (Err(6), EMPTY);
-    }
-    let bench = &mut bench[..m * n + m];
-    let (a, b) = bench.split_at_mut(m * n);
-    a.copy_from_slice(jacobian);
-    b.copy_from_slice(residuals);
-    let result = work_out(n, &mut Bench { m, a, b }, store, order);
-    bench.fill(0.0);
-    if result.is_ok() {
-        return (
-            result,
-            State {
-                m,
-                n,
-                held: Held::Nothing,
-            },
-        );
-    }
-    store[..needed(n)].fill(0.0);
-    for (j, place) in order[..n].iter_mut().enumerate() {
-        *place = j;
-    }
-    (result, EMPTY)
+    columns.lay(&small, store);
+    order[..columns.free].copy_from_slice(&pivots);
+    columns.continue_count(order);
+    let held = Held::Nothing;
+    let factored = State { m, n, held, marks };
+    (result, if result.is_ok() { factored } else { EMPTY })
 }

@@ -5,6 +5,7 @@
 
 mod elimination;
 mod factoring;
+mod frozen;
 mod leaves;
 mod measures;
 mod residuals;
@@ -88,13 +89,14 @@ impl Engine for Plain {
         &self,
         m: usize,
         n: usize,
+        marks: u16,
         jacobian: &[f64],
         residuals: &[f64],
         store: &mut [f64],
         order: &mut [usize],
         bench: &mut [f64],
     ) -> (Result<Ranges, u8>, State) {
-        factoring::factor(m, n, jacobian, residuals, store, order, bench)
+        factoring::factor(m, n, marks, jacobian, residuals, store, order, bench)
     }
     fn solve_with_zero_diagonal(
         &self,
@@ -197,7 +199,7 @@ impl Traced for Plain {
     ) -> Option<Run> {
         search::run(state, store, order, diag, radius, lambda)
     }
-    fn norms(&self, m: usize, n: usize, jacobian: &[f64]) -> Option<Vec<Measured>> {
-        factoring::norms(m, n, jacobian)
+    fn norms(&self, m: usize, n: usize, marks: u16, jacobian: &[f64]) -> Option<Vec<Measured>> {
+        factoring::norms(m, n, marks, jacobian)
     }
 }

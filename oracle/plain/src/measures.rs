@@ -1,8 +1,10 @@
 //! Module 6 of document 01: gradient, norm of Jx, scaling; and the two questions about R's diagonal. Also the ranges of
 //! several norms (02, #106).
 
+use crate::frozen::Columns;
 use crate::leaves::{abs, all_finite, axpy, dot, enorm, is_finite, max};
 use crate::room::{Room, admit};
+use crate::solves::finite_and_free;
 use api::{Measured, Mode, Of, Ranges, Start, State};
 
 pub fn measured(of: Of, ranges: Ranges) -> Measured {
@@ -49,8 +51,8 @@ pub fn max_a_t_b_scaled(
     order: &[usize],
     b_norm: f64,
 ) -> (Result<f64, u8>, State) {
-    let n = match admit(state, store, Some(order), &[], false) {
-        Ok(n) => n,
+    let columns = match admit(state, store, Some(order), &[], false) {
+        Ok(columns) => columns,
         Err(k) => return (Err(k), state),
     };
     if !is_finite(b_norm) {
@@ -59,10 +61,14 @@ pub fn max_a_t_b_scaled(
     if b_norm <= 0.0 {
         return (Err(7), state);
     }
-    let room = Room::of(n, store);
+    if columns.free == 0 {
+        return (Err(9), state);
+    }
+    let mut small = columns.narrow(store);
+    let room = Room::of(columns.free, &mut small);
     let b: Vec<f64> = room.qt_b.iter().map(|x| x / b_norm).collect();
     let answer = largest(&room, order, &b);
-    room.work.fill(0.0);
+    columns.clear_work(store);
     (finite_or_8(answer), state)
 }
 
@@ -72,19 +78,18 @@ pub fn a_x_norm(
     order: &[usize],
     x: &[f64],
 ) -> (Result<(f64, Ranges), u8>, State) {
-    let n = match admit(state, store, Some(order), &[x.len()], false) {
-        Ok(n) => n,
+    let admitted = admit(state, store, Some(order), &[x.len()], false);
+    let columns = match finite_and_free(admitted, x) {
+        Ok(columns) => columns,
         Err(k) => return (Err(k), state),
     };
-    if !all_finite(&x[..n]) {
-        return (Err(6), state);
-    }
-    let room = Room::of(n, store);
-    let mut sums = vec![0.0; n];
-    for i in 0..n {
+    let mut small = columns.narrow(store);
+    let (room, x) = (Room::of(columns.free, &mut small), columns.taken_out(x, 1));
+    let mut sums = vec![0.0; columns.free];
+    for i in 0..columns.free {
         axpy(x[order[i]], room.part(i, 0, i + 1), &mut sums[..i + 1]);
     }
-    room.work.fill(0.0);
+    columns.clear_work(store);
     let (norm, seen) = enorm(&sums);
     let answer = finite_or_8(Some(norm)).map(|norm| (norm, seen));
     (answer, state)
@@ -179,18 +184,61 @@ pub fn update_diag(
     step_bound: f64,
 ) -> (Result<(Option<Start>, Ranges), u8>, State) {
     let x_length = if is_first(mode) { x.len() } else { usize::MAX };
-    let n = match admit(state, store, None, &[diag.len(), x_length], false) {
-        Ok(n) => n,
+    let columns = match admit(state, store, None, &[diag.len(), x_length], false) {
+        Ok(columns) => columns,
         Err(k) => return (Err(k), state),
     };
-    let diag = &mut diag[..n];
-    let x = if is_first(mode) { &x[..n] } else { &[] };
+    let diag = &mut diag[..columns.n];
+    let x = if is_first(mode) { &x[..columns.n] } else { &[] };
     if let Err(k) = scaling_arguments(mode, diag, x, step_bound) {
         return (Err(k), state);
     }
-    let room = Room::of(n, store);
-    room.work.fill(0.0);
-    (scale(mode, room.norms, diag, x, step_bound), state)
+    if columns.free == 0 {
+        return (Err(9), state);
+    }
+    columns.clear_work(store);
+    let norms = columns.narrow(store);
+    let norms = &norms[columns.free * (columns.free + 1)..][..columns.free];
+    (
+        scale_free(&columns, mode, norms, diag, x, step_bound),
+        state,
+    )
+}
+
+/// The scaling of the free columns; the first of `norms` is the first free column's. "First scaling gives a frozen column
+/// 1, later scaling leaves its entry, and xnorm runs over the free columns only" (02, #108).
+fn scale_free(
+    columns: &Columns,
+    mode: Mode,
+    norms: &[f64],
+    diag: &mut [f64],
+    x: &[f64],
+    step_bound: f64,
+) -> Result<(Option<Start>, Ranges), u8> {
+    let mut free = columns.taken_out(diag, 1);
+    let x = if is_first(mode) {
+        columns.taken_out(x, 1)
+    } else {
+        Vec::new()
+    };
+    let answer = scale(mode, norms, &mut free, &x, step_bound)?;
+    let all = columns.put_in(&free, |k| {
+        if mode == Mode::FirstScaled {
+            1.0
+        } else {
+            diag[k]
+        }
+    });
+    diag.copy_from_slice(&all);
+    Ok(answer)
+}
+
+/// The reduced problem of a call that takes a state and a store alone.
+fn asked_of_r(state: State, store: &mut [f64]) -> Result<(Columns, Vec<f64>), u8> {
+    let columns = admit(state, store, None, &[], false)?.some_free()?;
+    columns.clear_work(store);
+    let small = columns.narrow(store);
+    Ok((columns, small))
 }
 
 /// "The number of leading places with |R_jj| greater than ((max(m,n) · 2^−52) · |R_00|), computed in that order and
@@ -207,12 +255,11 @@ fn leading_places(room: &Room, m: usize) -> usize {
 }
 
 pub fn determined(state: State, store: &mut [f64]) -> (Result<usize, u8>, State) {
-    let n = match admit(state, store, None, &[], false) {
-        Ok(n) => n,
+    let (columns, mut small) = match asked_of_r(state, store) {
+        Ok(reduced) => reduced,
         Err(k) => return (Err(k), state),
     };
-    let room = Room::of(n, store);
-    room.work.fill(0.0);
+    let room = Room::of(columns.free, &mut small);
     (Ok(leading_places(&room, state.m)), state)
 }
 
@@ -221,11 +268,10 @@ pub fn full_rank(room: &Room, m: usize) -> bool {
 }
 
 pub fn is_non_singular(state: State, store: &mut [f64]) -> (Result<bool, u8>, State) {
-    let n = match admit(state, store, None, &[], false) {
-        Ok(n) => n,
+    let (columns, mut small) = match asked_of_r(state, store) {
+        Ok(reduced) => reduced,
         Err(k) => return (Err(k), state),
     };
-    let room = Room::of(n, store);
-    room.work.fill(0.0);
+    let room = Room::of(columns.free, &mut small);
     (Ok(full_rank(&room, state.m)), state)
 }

@@ -1,11 +1,12 @@
 //! 01, Lent room and what stays in it; Refusal numbers, tests 2 to 5.
 
+use crate::frozen::Columns;
 use api::{Held, State};
 
 pub const MOST_ROWS: usize = 128;
 pub const MOST_COLUMNS: usize = 16;
 
-/// The needed part of a lent store.
+/// The needed part of a store of n columns: of the reduced problem's own store, where columns are frozen.
 pub struct Room<'a> {
     pub n: usize,
     /// Column j from place j*n on.
@@ -69,42 +70,34 @@ pub fn sizes(m: usize, n: usize) -> Result<(), u8> {
     }
 }
 
-fn permutation(order: &[usize]) -> bool {
-    for place in 0..order.len() {
-        if !order.contains(&place) {
-            return false;
-        }
-    }
-    true
-}
-
 /// Tests 5 (state empty), 2, 3, 4 and 5 (nothing held) of a call that takes a state. `lengths` are those of the
-/// vectors that need n numbers each; `reads_held` marks the two held calls.
+/// vectors that need n numbers each; `reads_held` marks the two held calls. Refusal 9 comes later.
 pub fn admit(
     state: State,
     store: &[f64],
     order: Option<&[usize]>,
     lengths: &[usize],
     reads_held: bool,
-) -> Result<usize, u8> {
+) -> Result<Columns, u8> {
     if state.held == Held::Empty {
         return Err(5);
     }
     sizes(state.m, state.n)?;
     let n = state.n;
+    let columns = Columns::of(n, state.marks)?;
     if store.len() < needed(n)
         || order.is_some_and(|o| o.len() < n)
         || lengths.iter().any(|&l| l < n)
     {
         return Err(3);
     }
-    if order.is_some_and(|o| !permutation(&o[..n])) {
+    if order.is_some_and(|o| !columns.ordered_by(o)) {
         return Err(4);
     }
     if reads_held && state.held == Held::Nothing {
         return Err(5);
     }
-    Ok(n)
+    Ok(columns)
 }
 
 pub fn holding(state: State, held: Held) -> State {

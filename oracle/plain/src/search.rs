@@ -109,7 +109,7 @@ fn arguments(diag: &[f64], radius: f64, lambda: f64) -> Result<(), u8> {
     Ok(())
 }
 
-/// The run and its step, or the refusal before it.
+/// The run and its step, "+0 at a frozen column" (02, #108), or the refusal before it.
 fn checked_run(
     state: State,
     store: &mut [f64],
@@ -119,25 +119,27 @@ fn checked_run(
     lambda: f64,
     room_for_step: usize,
 ) -> Result<(Run, Vec<f64>), u8> {
-    let n = admit(
+    let columns = admit(
         state,
         store,
         Some(order),
         &[diag.len(), room_for_step],
         false,
     )?;
-    let diag = &diag[..n];
-    arguments(diag, radius, lambda)?;
-    let mut step = vec![0.0; n];
+    arguments(&diag[..columns.n], radius, lambda)?;
+    let columns = columns.some_free()?;
+    let mut step = vec![0.0; columns.free];
     let asked = Asked {
         m: state.m,
         order,
-        diag,
+        diag: &columns.taken_out(diag, 1),
         radius,
         lambda,
     };
-    let run = whole_run(&mut Room::of(n, store), &asked, &mut step);
-    Ok((run, step))
+    let mut small = columns.narrow(store);
+    let run = whole_run(&mut Room::of(columns.free, &mut small), &asked, &mut step);
+    columns.widen(&small, store);
+    Ok((run, columns.put_in(&step, |_| 0.0)))
 }
 
 pub fn search(

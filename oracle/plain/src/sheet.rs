@@ -128,6 +128,7 @@ fn work_out(bytes: &[u8]) -> Result<String, u8> {
     let (factored, state) = factor(
         m,
         n,
+        0,
         &sheet.jacobian,
         &sheet.residuals,
         &mut store,

@@ -2,6 +2,7 @@
 //! can stand on them: its list under refusal 8 has no inner solve.
 
 use crate::elimination::eliminate;
+use crate::frozen::Columns;
 use crate::leaves::{all_finite, axpy, dot, solve_upper};
 use crate::room::{Room, admit, holding};
 use api::{Held, State};
@@ -77,20 +78,25 @@ pub fn held_mul(room: &mut Room, held: Held) -> Vec<f64> {
     out
 }
 
-/// Refusal 8 of a zero or damped solve: "lower part and l_diag +0, held nothing".
+/// The end of a zero or damped solve. "A frozen column's step is +0" (02, #108). Refusal 8: "lower part and l_diag +0,
+/// held nothing".
 fn settle(
-    room: &mut Room,
+    columns: &Columns,
+    small: &mut [f64],
     answer: &[f64],
+    store: &mut [f64],
     out: &mut [f64],
-    state: State,
     held: Held,
-) -> (Result<(), u8>, State) {
+) -> (Result<(), u8>, Held) {
+    let mut end = (Ok(()), held);
     if all_finite(answer) {
-        out[..answer.len()].copy_from_slice(answer);
-        return (Ok(()), holding(state, held));
+        out[..columns.n].copy_from_slice(&columns.put_in(answer, |_| 0.0));
+    } else {
+        Room::of(columns.free, small).clear_lower();
+        end = (Err(8), Held::Nothing);
     }
-    room.clear_lower();
-    (Err(8), holding(state, Held::Nothing))
+    columns.widen(small, store);
+    end
 }
 
 pub fn solve_with_zero_diagonal(
@@ -99,14 +105,17 @@ pub fn solve_with_zero_diagonal(
     order: &[usize],
     out: &mut [f64],
 ) -> (Result<(), u8>, State) {
-    let n = match admit(state, store, Some(order), &[out.len()], false) {
-        Ok(n) => n,
+    let admitted = admit(state, store, Some(order), &[out.len()], false);
+    let columns = match admitted.and_then(Columns::some_free) {
+        Ok(columns) => columns,
         Err(k) => return (Err(k), state),
     };
-    let mut room = Room::of(n, store);
-    let mut answer = vec![0.0; n];
+    let mut small = columns.narrow(store);
+    let mut answer = vec![0.0; columns.free];
+    let mut room = Room::of(columns.free, &mut small);
     zero_working(&mut room, state.m, order, &mut answer);
-    settle(&mut room, &answer, out, state, Held::Zero)
+    let (result, held) = settle(&columns, &mut small, &answer, store, out, Held::Zero);
+    (result, holding(state, held))
 }
 
 pub fn solve_with_diagonal(
@@ -116,25 +125,45 @@ pub fn solve_with_diagonal(
     diag: &[f64],
     out: &mut [f64],
 ) -> (Result<(), u8>, State) {
-    let n = match admit(state, store, Some(order), &[diag.len(), out.len()], false) {
-        Ok(n) => n,
+    let admitted = admit(state, store, Some(order), &[diag.len(), out.len()], false);
+    let columns = match finite_and_free(admitted, diag) {
+        Ok(columns) => columns,
         Err(k) => return (Err(k), state),
     };
-    if !all_finite(&diag[..n]) {
-        return (Err(6), state);
-    }
-    let mut room = Room::of(n, store);
-    let mut answer = vec![0.0; n];
-    damped_working(&mut room, order, diag, &mut answer);
-    settle(&mut room, &answer, out, state, Held::Damped)
+    let mut small = columns.narrow(store);
+    let mut answer = vec![0.0; columns.free];
+    let (mut room, diag) = (
+        Room::of(columns.free, &mut small),
+        columns.taken_out(diag, 1),
+    );
+    damped_working(&mut room, order, &diag, &mut answer);
+    let (result, held) = settle(&columns, &mut small, &answer, store, out, Held::Damped);
+    (result, holding(state, held))
 }
 
-fn hand_out(answer: &[f64], out: &mut [f64], state: State) -> (Result<(), u8>, State) {
-    if !all_finite(answer) {
-        return (Err(8), state);
+/// Tests 6 and 9 of a call that takes n numbers; the frozen columns' are read too (02, #108).
+pub fn finite_and_free(admitted: Result<Columns, u8>, v: &[f64]) -> Result<Columns, u8> {
+    let columns = admitted?;
+    if all_finite(&v[..columns.n]) {
+        columns.some_free()
+    } else {
+        Err(6)
     }
-    out[..answer.len()].copy_from_slice(answer);
-    (Ok(()), state)
+}
+
+/// The end of a held call: "+0 in the places past the free count" (02, #108).
+fn hand_out(
+    columns: &Columns,
+    answer: &[f64],
+    store: &mut [f64],
+    out: &mut [f64],
+) -> Result<(), u8> {
+    columns.clear_work(store);
+    if !all_finite(answer) {
+        return Err(8);
+    }
+    out[..columns.n].copy_from_slice(&columns.filled_up(answer));
+    Ok(())
 }
 
 pub fn solve(
@@ -144,20 +173,27 @@ pub fn solve(
     rhs: &[f64],
     out: &mut [f64],
 ) -> (Result<(), u8>, State) {
-    let n = match admit(state, store, Some(order), &[rhs.len(), out.len()], true) {
-        Ok(n) => n,
+    let admitted = admit(state, store, Some(order), &[rhs.len(), out.len()], true);
+    let columns = match finite_and_free(admitted, rhs) {
+        Ok(columns) => columns,
         Err(k) => return (Err(k), state),
     };
-    if !all_finite(&rhs[..n]) {
-        return (Err(6), state);
-    }
-    let answer = held_solve(&mut Room::of(n, store), state.held, order, rhs);
-    hand_out(&answer, out, state)
+    let mut small = columns.narrow(store);
+    let (mut room, rhs) = (
+        Room::of(columns.free, &mut small),
+        columns.taken_out(rhs, 1),
+    );
+    let answer = held_solve(&mut room, state.held, order, &rhs);
+    (hand_out(&columns, &answer, store, out), state)
 }
 
 pub fn mul_qt_b(state: State, store: &mut [f64], out: &mut [f64]) -> (Result<(), u8>, State) {
-    match admit(state, store, None, &[out.len()], true) {
-        Ok(n) => hand_out(&held_mul(&mut Room::of(n, store), state.held), out, state),
-        Err(k) => (Err(k), state),
-    }
+    let admitted = admit(state, store, None, &[out.len()], true);
+    let columns = match admitted.and_then(Columns::some_free) {
+        Ok(columns) => columns,
+        Err(k) => return (Err(k), state),
+    };
+    let mut small = columns.narrow(store);
+    let answer = held_mul(&mut Room::of(columns.free, &mut small), state.held);
+    (hand_out(&columns, &answer, store, out), state)
 }

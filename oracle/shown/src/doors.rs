@@ -18,21 +18,22 @@ pub fn factor(m: usize, n: usize, jacobian: &[f64], residuals: &[f64]) -> Proble
 }
 
 impl Problem {
-    /// The problem that a store holds. The shown Rust reads no row of `upper_r` from n on.
+    /// The problem that a store holds: "the reduced problem fills the first places of each part of the store, its
+    /// columns still n apart" (02, #108). The shown Rust reads no row of `upper_r` past its columns.
     pub fn open(room: &Room, store: &[f64], order: &[usize]) -> Problem {
-        let (m, n) = (room.m, room.n);
-        let mut upper_r = OMatrix::zeros_generic(Dyn(m.max(n)), Dyn(n));
-        let square = store[room.square()].chunks(n);
+        let (m, free) = (room.m, room.free());
+        let mut upper_r = OMatrix::zeros_generic(Dyn(m.max(free)), Dyn(free));
+        let square = store[room.square()].chunks(room.n);
         for (mut column, kept) in upper_r.column_iter_mut().zip(square) {
-            column.rows_range_mut(..n).copy_from(&vector(kept));
+            column.rows_range_mut(..free).copy_from(&vector(&kept[..free]));
         }
         LinearLeastSquaresDiagonalProblem {
-            qt_b: vector(&store[room.qt_b()]),
+            qt_b: vector(&store[room.qt_b()][..free]),
             upper_r,
-            l_diag: vector(&store[room.l_diag()]),
-            permutation: vector(order),
-            column_norms: vector(&store[room.norms()]),
-            work: OVector::zeros_generic(Dyn(n), U1::from_usize(1)),
+            l_diag: vector(&store[room.l_diag()][..free]),
+            permutation: vector(&order[..free]),
+            column_norms: vector(&store[room.norms()][..free]),
+            work: OVector::zeros_generic(Dyn(free), U1::from_usize(1)),
             m: Dyn(m),
         }
     }
@@ -57,15 +58,17 @@ impl Problem {
     pub fn keep_factored(&self, room: &Room, store: &mut [f64]) {
         store[..room.needed()].fill(0.0);
         self.keep_square(room, store, |i, j| i <= j);
-        store[room.qt_b()].copy_from_slice(self.qt_b.as_slice());
-        store[room.norms()].copy_from_slice(self.column_norms.as_slice());
+        let free = room.free();
+        store[room.qt_b()][..free].copy_from_slice(self.qt_b.as_slice());
+        store[room.norms()][..free].copy_from_slice(self.column_norms.as_slice());
     }
 
     /// Writes what a damped solve leaves: L's strict lower part and its diagonal. R is written too, as the shown Rust
-    /// left it, so that a diagonal not put back would show.
+    /// left it, so that a diagonal not put back would show. Past the free count there is +0 in both parts of L.
     pub fn keep_damped(&self, room: &Room, store: &mut [f64]) {
+        room.clear_l(store);
         self.keep_square(room, store, |_, _| true);
-        store[room.l_diag()].copy_from_slice(self.l_diag.as_slice());
+        store[room.l_diag()][..room.free()].copy_from_slice(self.l_diag.as_slice());
     }
 
     /// Writes R alone, as the shown Rust left it.
@@ -79,8 +82,9 @@ impl Problem {
         store: &mut [f64],
         kept: impl Fn(usize, usize) -> bool,
     ) {
-        for j in 0..room.n {
-            for i in (0..room.n).filter(|i| kept(*i, j)) {
+        let free = room.free();
+        for j in 0..free {
+            for i in (0..free).filter(|i| kept(*i, j)) {
                 store[room.square()][j * room.n + i] = self.upper_r[(i, j)];
             }
         }

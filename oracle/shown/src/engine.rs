@@ -66,20 +66,23 @@ fn solve(
     let room = check_solve(state, store, order, &[rhs.len(), out.len()])?;
     let damped = is_damped(state)?;
     finite(&rhs[..room.n])?;
-    let mut problem = Problem::open(&room, store, &order[..room.n]);
-    let numbers = problem.held(damped).solve(vector(&rhs[..room.n]));
+    let room = room.some_free()?;
+    let mut problem = Problem::open(&room, store, order);
+    let numbers = problem.held(damped).solve(vector(&room.gather(rhs)));
     room.clear_work(store);
-    answer(numbers.as_slice(), out)
+    answer(&room.padded(numbers.as_slice()), out)
 }
 
 fn mul_qt_b(state: State, store: &mut [f64], out: &mut [f64]) -> Result<(), u8> {
     let room = Room::of_state(state)?;
     room.lengths(store, &[(out.len(), room.n)])?;
     let damped = is_damped(state)?;
+    let room = room.some_free()?;
     let mut problem = unordered(&room, store);
-    let numbers = problem.held(damped).mul_qt_b(vector(&vec![0.0; room.n]));
+    let filled = vector(&vec![0.0; room.free()]);
+    let numbers = problem.held(damped).mul_qt_b(filled);
     room.clear_work(store);
-    answer(numbers.as_slice(), out)
+    answer(&room.padded(numbers.as_slice()), out)
 }
 
 fn max_a_t_b_scaled(
@@ -91,7 +94,8 @@ fn max_a_t_b_scaled(
     let room = check_solve(state, store, order, &[])?;
     finite(&[b_norm])?;
     unless(b_norm <= 0.0)?;
-    let mut problem = Problem::open(&room, store, &order[..room.n]);
+    let room = room.some_free()?;
+    let mut problem = Problem::open(&room, store, order);
     let measure = problem.max_a_t_b_scaled(b_norm);
     room.clear_work(store);
     measure.filter(|measure| measure.is_finite()).ok_or(8)
@@ -105,8 +109,9 @@ fn a_x_norm(
 ) -> Result<(f64, Ranges), u8> {
     let room = check_solve(state, store, order, &[x.len()])?;
     finite(&x[..room.n])?;
-    let mut problem = Problem::open(&room, store, &order[..room.n]);
-    let (norm, norms) = recorder::of(|| problem.a_x_norm(&vector(&x[..room.n])));
+    let room = room.some_free()?;
+    let mut problem = Problem::open(&room, store, order);
+    let (norm, norms) = recorder::of(|| problem.a_x_norm(&vector(&room.gather(x))));
     room.clear_work(store);
     let ranges = recorder::all(&norms);
     if norm.is_finite() {
@@ -121,6 +126,7 @@ impl Engine for Shown {
         &self,
         m: usize,
         n: usize,
+        marks: u16,
         jacobian: &[f64],
         residuals: &[f64],
         store: &mut [f64],
@@ -132,7 +138,7 @@ impl Engine for Shown {
             order,
             bench,
         };
-        factoring::factor(m, n, jacobian, residuals, lent)
+        factoring::factor(m, n, marks, jacobian, residuals, lent)
     }
 
     fn solve_with_zero_diagonal(
@@ -142,14 +148,15 @@ impl Engine for Shown {
         order: &[usize],
         out: &mut [f64],
     ) -> (Result<(), u8>, State) {
-        let room = match check_solve(state, store, order, &[out.len()]) {
+        let checked = check_solve(state, store, order, &[out.len()]);
+        let room = match checked.and_then(Room::some_free) {
             Ok(room) => room,
             Err(number) => return (Err(number), state),
         };
-        let mut problem = Problem::open(&room, store, &order[..room.n]);
+        let mut problem = Problem::open(&room, store, order);
         let (numbers, _) = problem.solve_with_zero_diagonal();
         problem.keep_r(&room, store);
-        let answered = answer(numbers.as_slice(), out);
+        let answered = answer(&room.spread(numbers.as_slice()), out);
         settle(&room, state, store, answered, Held::Zero)
     }
 
@@ -163,15 +170,15 @@ impl Engine for Shown {
     ) -> (Result<(), u8>, State) {
         let checked = check_solve(state, store, order, &[diag.len(), out.len()]);
         let checked = checked.and_then(|room| finite(&diag[..room.n]).map(|()| room));
-        let room = match checked {
+        let room = match checked.and_then(Room::some_free) {
             Ok(room) => room,
             Err(number) => return (Err(number), state),
         };
-        let mut problem = Problem::open(&room, store, &order[..room.n]);
-        let filled = vector(&vec![0.0; room.n]);
-        let (numbers, _) = problem.solve_with_diagonal(&vector(&diag[..room.n]), filled);
+        let mut problem = Problem::open(&room, store, order);
+        let filled = vector(&vec![0.0; room.free()]);
+        let (numbers, _) = problem.solve_with_diagonal(&vector(&room.gather(diag)), filled);
         problem.keep_damped(&room, store);
-        let answered = answer(numbers.as_slice(), out);
+        let answered = answer(&room.spread(numbers.as_slice()), out);
         settle(&room, state, store, answered, Held::Damped)
     }
 

@@ -12,8 +12,9 @@ pub struct Lent<'a> {
     pub bench: &'a mut [f64],
 }
 
-fn check(m: usize, n: usize, jacobian: &[f64], residuals: &[f64], lent: &Lent) -> Result<Room, u8> {
-    let room = Room::of_sizes(m, n)?;
+/// Every column is read, frozen ones too (02, #108).
+fn check(room: Room, jacobian: &[f64], residuals: &[f64], lent: &Lent) -> Result<Room, u8> {
+    let (m, n) = (room.m, room.n);
     let others = [
         (jacobian.len(), m * n),
         (residuals.len(), m),
@@ -23,29 +24,33 @@ fn check(m: usize, n: usize, jacobian: &[f64], residuals: &[f64], lent: &Lent) -
     room.lengths(lent.store, &others)?;
     finite(&jacobian[..m * n])?;
     finite(&residuals[..m])?;
-    Ok(room)
+    room.some_free()
 }
 
 /// The empty state comes back with every refusal.
 pub fn factor(
     m: usize,
     n: usize,
+    marks: u16,
     jacobian: &[f64],
     residuals: &[f64],
     lent: Lent,
 ) -> (Result<Ranges, u8>, State) {
-    let room = match check(m, n, jacobian, residuals, &lent) {
+    let room = Room::of_sizes(m, n, marks);
+    let room = match room.and_then(|room| check(room, jacobian, residuals, &lent)) {
         Ok(room) => room,
         Err(number) => return (Err(number), EMPTY),
     };
+    let reduced = room.reduced(jacobian);
     let (problem, norms) =
-        recorder::of(|| doors::factor(m, n, &jacobian[..m * n], &residuals[..m]));
+        recorder::of(|| doors::factor(m, room.free(), &reduced, &residuals[..m]));
     lent.bench[..room.bench()].fill(0.0);
     problem.keep_factored(&room, lent.store);
     if all_finite(&lent.store[..room.needed()]) {
-        lent.order[..n].copy_from_slice(problem.order());
+        lent.order[..n].copy_from_slice(&room.continued(problem.order()));
         let held = Held::Nothing;
-        return (Ok(recorder::all(&norms)), State { m, n, held });
+        let state = State { m, n, held, marks };
+        return (Ok(recorder::all(&norms)), state);
     }
     lent.store[..room.needed()].fill(0.0);
     for (place, entry) in lent.order[..n].iter_mut().enumerate() {
@@ -78,29 +83,32 @@ fn of(of: Of, norm: &Norm) -> Measured {
     }
 }
 
-pub fn norms(m: usize, n: usize, jacobian: &[f64]) -> Option<Vec<Measured>> {
-    Room::of_sizes(m, n).ok()?;
+pub fn norms(m: usize, n: usize, marks: u16, jacobian: &[f64]) -> Option<Vec<Measured>> {
+    let room = Room::of_sizes(m, n, marks).ok()?;
     let jacobian = jacobian.get(..m * n)?;
     finite(jacobian).ok()?;
-    let (_, norms) = recorder::of(|| doors::factor(m, n, jacobian, &vec![0.0; m]));
-    Some(measured(m, n, &norms))
+    let (free, reduced) = (room.some_free().ok()?.free(), room.reduced(jacobian));
+    let (_, norms) = recorder::of(|| doors::factor(m, free, &reduced, &vec![0.0; m]));
+    Some(measured(m, free, &norms))
 }
 
 /// The tests of a call that takes a state and a store and nothing else to be tested.
 pub fn check_store(state: State, store: &[f64]) -> Result<Room, u8> {
     let room = Room::of_state(state)?;
     room.lengths(store, &[])?;
-    Ok(room)
+    room.some_free()
 }
 
 /// The leading places whose diagonal of R is above ((max(m, n) · 2^−52) · |R_00|) (02, #104). Where m < n, R's row m is
-/// zero, whatever the store has there. The Rust's rank, which goes by exact zeros, has no part in it.
+/// zero, whatever the store has there. The Rust's rank, which goes by exact zeros, has no part in it. n is the number of
+/// R's columns, so the free count (02, #108).
 pub fn determined(state: State, store: &mut [f64]) -> Result<usize, u8> {
     let room = check_store(state, store)?;
     room.clear_work(store);
-    let places = room.m.min(room.n);
+    let (m, free) = (room.m, room.free());
+    let places = m.min(free);
     let diagonal = |j: usize| store[j * room.n + j].abs();
-    let limit = room.m.max(room.n) as f64 * f64::EPSILON * diagonal(0);
+    let limit = m.max(free) as f64 * f64::EPSILON * diagonal(0);
     let failing = (0..places).find(|j| !(diagonal(*j) > limit));
     Ok(failing.unwrap_or(places))
 }

@@ -5,6 +5,7 @@
 
 mod engine;
 mod factoring;
+mod frozen;
 mod leaves;
 pub mod published;
 mod recorder;

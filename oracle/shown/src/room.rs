@@ -11,21 +11,25 @@ pub const COLUMNS: usize = 16;
 pub struct Room {
     pub m: usize,
     pub n: usize,
+    pub marks: u16,
 }
 
 impl Room {
-    /// Test 2.
-    pub fn of_sizes(m: usize, n: usize) -> Result<Room, u8> {
+    /// Test 2, "also for a mark past n" (02, #108).
+    pub fn of_sizes(m: usize, n: usize, marks: u16) -> Result<Room, u8> {
         let in_range = (1..=ROWS).contains(&m) && (1..=COLUMNS).contains(&n);
-        if in_range { Ok(Room { m, n }) } else { Err(2) }
+        if !in_range || api::mark_past(marks, n) {
+            return Err(2);
+        }
+        Ok(Room { m, n, marks })
     }
 
-    /// Test 5 for the empty state, whose sizes are not read, then test 2.
+    /// Test 5 for the empty state, whose sizes and marks are not read, then test 2.
     pub fn of_state(state: State) -> Result<Room, u8> {
         if state.held == Held::Empty {
             return Err(5);
         }
-        Room::of_sizes(state.m, state.n)
+        Room::of_sizes(state.m, state.n, state.marks)
     }
 
     pub fn square(&self) -> Range<usize> {
@@ -80,16 +84,18 @@ impl Room {
         if fits { Ok(()) } else { Err(3) }
     }
 
-    /// Test 4.
+    /// Test 4: the free columns' numbers, counted among themselves, in any order; then the count goes on (02, #108).
     pub fn order(&self, order: &[usize]) -> Result<(), u8> {
+        let free = self.free();
         let mut seen = [false; COLUMNS];
-        for &place in &order[..self.n] {
-            if place >= self.n || seen[place] {
+        for &place in &order[..free] {
+            if place >= free || seen[place] {
                 return Err(4);
             }
             seen[place] = true;
         }
-        Ok(())
+        let goes_on = order[free..self.n].iter().copied().eq(free..self.n);
+        if goes_on { Ok(()) } else { Err(4) }
     }
 }
 

@@ -32,7 +32,7 @@ fn check(state: State, store: &[f64], mode: Mode, lent: &Lent) -> Result<Room, u
     if mode == Mode::LaterScaled {
         finite(&lent.diag[..n])?;
     }
-    Ok(room)
+    room.some_free()
 }
 
 fn shown(
@@ -41,11 +41,10 @@ fn shown(
     mode: Mode,
     lent: &Lent,
 ) -> Result<(LM<f64, nalgebra::Dyn>, Ranges), u8> {
-    let n = room.n;
     let x = if is_first(mode) {
-        vector(&lent.x[..n])
+        vector(&room.gather(lent.x))
     } else {
-        vector(&vec![0.0; n])
+        vector(&vec![0.0; room.free()])
     };
     let mut lm = LM {
         config: Config {
@@ -56,7 +55,7 @@ fn shown(
         x,
         delta: 0.0,
         xnorm: 0.0,
-        diag: vector(&lent.diag[..n]),
+        diag: vector(&room.gather(lent.diag)),
         first_update: is_first(mode),
     };
     let mut problem = unordered(room, store);
@@ -98,7 +97,11 @@ pub fn update_diag(
         if !all_finite(lm.diag.as_slice()) {
             return Err(8);
         }
-        lent.diag[..room.n].copy_from_slice(lm.diag.as_slice());
+        if is_first(mode) {
+            // "First scaling gives a frozen column 1, later scaling leaves its entry" (02, #108).
+            lent.diag[..room.n].fill(1.0);
+        }
+        room.scatter(lm.diag.as_slice(), lent.diag);
     }
     Ok((answer, ranges))
 }

@@ -35,7 +35,7 @@ fn check(state: State, store: &[f64], asked: &Question, room_for: usize) -> Resu
     finite(&[asked.radius, asked.lambda])?;
     unless(asked.radius <= 0.0 || asked.lambda < 0.0)?;
     unless(asked.diag[..n].contains(&0.0))?;
-    Ok(room)
+    room.some_free()
 }
 
 fn same(a: f64, b: f64) -> bool {
@@ -53,8 +53,9 @@ fn assert_norms(original: &[Norm], copy: &[Norm], run: &Run) {
 }
 
 fn both(room: &Room, store: &[f64], asked: &Question) -> Answer {
-    let open = || Problem::open(room, store, &asked.order[..room.n]);
-    let (diag, radius, lambda) = (vector(&asked.diag[..room.n]), asked.radius, asked.lambda);
+    let open = || Problem::open(room, store, asked.order);
+    let diag = vector(&room.gather(asked.diag));
+    let (radius, lambda) = (asked.radius, asked.lambda);
     let mut problem = open();
     let (plain, norms) = recorder::of(|| {
         trust_region::determine_lambda_and_parameter_update(&mut problem, &diag, radius, lambda)
@@ -103,7 +104,7 @@ pub fn search(
     if let End::Refused(_) = answer.run.end {
         return (Err(8), state);
     }
-    out[..room.n].copy_from_slice(&answer.step);
+    out[..room.n].copy_from_slice(&room.spread(&answer.step));
     let found = Found {
         lambda: answer.lambda,
         norm: answer.norm,
@@ -132,8 +133,8 @@ impl Traced for Shown {
         Some(both(&room, store, &asked).run)
     }
 
-    fn norms(&self, m: usize, n: usize, jacobian: &[f64]) -> Option<Vec<Measured>> {
-        factoring::norms(m, n, jacobian)
+    fn norms(&self, m: usize, n: usize, marks: u16, jacobian: &[f64]) -> Option<Vec<Measured>> {
+        factoring::norms(m, n, marks, jacobian)
     }
 }
 

@@ -36,7 +36,7 @@ fn head(bytes: &[u8]) -> Result<(bool, Room), u8> {
         _ => return Err(1),
     };
     let m = usize::from(*second) << 2 | usize::from(*third) >> 6;
-    let room = Room::of_sizes(m, usize::from(*third & 0x3F))?;
+    let room = Room::of_sizes(m, usize::from(*third & 0x3F), 0)?;
     Ok((second_call, room))
 }
 
@@ -81,7 +81,7 @@ pub fn work(bytes: &[u8]) -> Result<Printed, u8> {
     let mut order = vec![0; n];
     let (jacobian, residuals) = (&sheet.jacobian, &sheet.residuals);
     let (factored, state) = Shown.factor(
-        m, n, jacobian, residuals, &mut store, &mut order, &mut bench,
+        m, n, 0, jacobian, residuals, &mut store, &mut order, &mut bench,
     );
     factored?;
     let (mut diag, mut radius) = (sheet.places.clone(), sheet.bound);

@@ -16,7 +16,7 @@ impl Site {
         let mut order = vec![9; n];
         let mut bench = vec![7.0; m * n + m];
         let (answer, state) = Shown.factor(
-            m, n, jacobian, residuals, &mut store, &mut order, &mut bench,
+            m, n, 0, jacobian, residuals, &mut store, &mut order, &mut bench,
         );
         assert_eq!(answer, Ok(Ranges::NEITHER));
         assert!(bench.iter().all(|entry| entry.to_bits() == 0));
@@ -50,7 +50,9 @@ fn a_to_d_leaves() {
     assert_eq!(Leaves::sqrt(&Shown, 0.390625), 0.625);
     assert_eq!(Leaves::sqrt(&Shown, f64::from_bits(1)), 2f64.powi(-537));
     assert_eq!(Shown.enorm(&[3.0, 4.0]), Ok((5.0, Ranges::NEITHER)));
-    let empty = Shown.enorm(&[]).map(|(norm, ranges)| (norm.to_bits(), ranges));
+    let empty = Shown
+        .enorm(&[])
+        .map(|(norm, ranges)| (norm.to_bits(), ranges));
     assert_eq!(empty, Ok((0, Ranges::NEITHER)));
 }
 
@@ -128,7 +130,7 @@ fn rows_128_and_129() {
         let (mut store, mut order, mut bench) = ([0.0; 5], [0], vec![0.0; 2 * m]);
         let lent = (&mut store, &mut order, &mut bench);
         Shown
-            .factor(m, 1, &jacobian, &jacobian, lent.0, lent.1, lent.2)
+            .factor(m, 1, 0, &jacobian, &jacobian, lent.0, lent.1, lent.2)
             .0
     };
     assert_eq!(factor(128), Ok(Ranges::NEITHER));

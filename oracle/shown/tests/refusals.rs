@@ -9,7 +9,12 @@ const NAN: f64 = f64::NAN;
 const STORE: [f64; 5] = [2.0, 4.0, 2.0, 0.0, 7.0];
 
 fn state(m: usize, n: usize, held: Held) -> State {
-    State { m, n, held }
+    State {
+        m,
+        n,
+        held,
+        marks: 0,
+    }
 }
 
 fn search(state: State, store: &[f64], order: &[usize], diag: &[f64], radius: f64) -> u8 {
@@ -65,7 +70,7 @@ fn factoring_hands_back_the_empty_state_and_reads_no_order() {
         let (mut store, mut order, mut bench) = ([7.0; 6], [9], [7.0; 4]);
         let lent = (&mut store, &mut order, &mut bench);
         let residuals = [1.0, 1.0];
-        let (answer, state) = Shown.factor(m, 1, jacobian, &residuals, lent.0, lent.1, lent.2);
+        let (answer, state) = Shown.factor(m, 1, 0, jacobian, &residuals, lent.0, lent.1, lent.2);
         (answer, state, store, order, bench)
     };
     assert_eq!(factor(0, &[NAN]), (Err(2), EMPTY, [7.0; 6], [9], [7.0; 4]));

@@ -40,7 +40,7 @@ impl Site {
         let before = self.clone();
         let (jacobian, residuals) = (numbers.matrix(m * n), numbers.matrix(m));
         let (store, order, bench) = (&mut self.store, &mut self.order, &mut self.bench);
-        let (answer, state) = Shown.factor(m, n, &jacobian, &residuals, store, order, bench);
+        let (answer, state) = Shown.factor(m, n, 0, &jacobian, &residuals, store, order, bench);
         self.state = state;
         let needed = n * n + 4 * n;
         assert_eq!(bits(&self.store[needed..]), bits(&before.store[needed..]));
@@ -55,7 +55,8 @@ impl Site {
                 State {
                     m,
                     n,
-                    held: Held::Nothing
+                    held: Held::Nothing,
+                    marks: 0,
                 }
             ),
             Err(_) => assert_eq!(state, EMPTY),
@@ -274,7 +275,12 @@ fn made_up(numbers: &mut Numbers) -> Site {
     }
     let length = about(numbers, n * n + 4 * n);
     Site {
-        state: State { m, n, held },
+        state: State {
+            m,
+            n,
+            held,
+            marks: 0,
+        },
         store: numbers.list(length),
         order,
         bench: Vec::new(),

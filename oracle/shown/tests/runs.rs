@@ -54,7 +54,7 @@ fn factored(m: usize, jacobian: &[f64], residuals: &[f64], diag: &[f64]) -> Opti
     let mut order = vec![0; n];
     let mut bench = vec![0.0; m * n + m];
     let (answer, state) = Shown.factor(
-        m, n, jacobian, residuals, &mut store, &mut order, &mut bench,
+        m, n, 0, jacobian, residuals, &mut store, &mut order, &mut bench,
     );
     answer.ok()?;
     Some(Question {

@@ -187,12 +187,13 @@ impl Reader<'_> {
     fn item(&mut self, item: Item) -> Result<Option<Event>, String> {
         match item {
             Item::Rooms { .. } => self.given = None,
-            Item::State(s) => self.given = Some(Given::blank(s.m, s.n)),
+            Item::State(s) if s.marks == 0 => self.given = Some(Given::blank(s.m, s.n)),
             Item::Order(k, v) => self.given.iter_mut().for_each(|g| g.order[k] = v),
             Item::Store(k, x) => self.given.iter_mut().for_each(|g| g.write(k, x)),
             Item::Factor {
                 m,
                 n,
+                marks: 0,
                 jacobian,
                 residuals,
             } => return self.factor(m, n, jacobian, residuals).map(Some),

@@ -72,6 +72,7 @@ fn refused_at(s: &Search) -> Option<Place> {
         m: given.m,
         n: given.n,
         held: Held::Nothing,
+        marks: 0,
     };
     let mut store = given.r.clone();
     store.extend_from_slice(&given.qt_b);

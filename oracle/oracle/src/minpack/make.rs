@@ -43,12 +43,18 @@ fn opened(start: &Start, seed: u64) -> Vec<Item> {
         Start::Problem(p) => items.push(Item::Factor {
             m,
             n,
+            marks: 0,
             jacobian: p.jacobian.clone(),
             residuals: p.residuals.clone(),
         }),
         Start::Claimed { r, qt_b, order, .. } => {
             let held = Held::Nothing;
-            items.push(Item::State(State { m, n, held }));
+            items.push(Item::State(State {
+                m,
+                n,
+                held,
+                marks: 0,
+            }));
             items.extend((0..n).map(|k| Item::Order(k, order[k])));
             let cells = r.iter().chain(qt_b).enumerate();
             items.extend(cells.map(|(k, x)| Item::Store(k, *x)));

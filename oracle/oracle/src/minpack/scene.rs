@@ -160,6 +160,7 @@ fn undamped(n: usize, r: &[f64], qt_b: &[f64], order: &[usize], diag: &[f64]) ->
         m: n,
         n,
         held: Held::Nothing,
+        marks: 0,
     };
     let mut store = [r, qt_b].concat();
     store.resize(n * n + 4 * n, 0.0);

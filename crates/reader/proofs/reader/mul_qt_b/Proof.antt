@@ -46,18 +46,18 @@ use Rattle.leaves.specs.Reply.{doneOf}
 use Rattle.leaves.specs.declared.reply.Done.{Done}
 use Rattle.leaves.proofs.reply.Done as S
 use Rattle.leaves.proofs.reply.Done.Laws as S′
-use Rattle.factor.specs.HeldCalls.{mulCall}
-use Rattle.factor.specs.Outcome.{read, readOf}
-use Rattle.factor.specs.declared.state.State.{State}
-use Rattle.factor.proofs.state.State as Q
-use Rattle.factor.proofs.state.State.Laws as Q′
+use Rattle.calls.specs.HeldCalls.{markedMul, markedRead}
+use Rattle.factor.specs.Outcome.{read}
+use Rattle.calls.specs.declared.state.State.{State}
+use Rattle.calls.proofs.state.State as Q
+use Rattle.calls.proofs.state.State.Laws as Q′
 use Rattle.reader.specs.declared.reader.CholeskyFactor.{CholeskyFactor}
 use Rattle.reader.proofs.reader.CholeskyFactor as T
 use Rattle.reader.proofs.reader.CholeskyFactor.Laws as T′
-use Rattle.factor.proofs.cholesky.mul_read as at
-use Rattle.factor.proofs.cholesky.mul_read.Symbol as at-def
-use Rattle.factor.proofs.cholesky.mul_read.Symbol.{name as #mul-read}
-use Rattle.factor.proofs.cholesky.mul_read.Met as at-thm
+use Rattle.calls.proofs.cholesky.mul_read as at
+use Rattle.calls.proofs.cholesky.mul_read.Symbol as at-def
+use Rattle.calls.proofs.cholesky.mul_read.Symbol.{name as #mul-read}
+use Rattle.calls.proofs.cholesky.mul_read.Met as at-thm
 use Rattle.reader.proofs.reader.mul_qt_b.Key.{name as #mul-qt-b}
 use Rattle.reader.proofs.reader.mul_qt_b as mul
 use Rattle.reader.proofs.reader.mul_qt_b.Statement as stated
@@ -142,7 +142,7 @@ module _ {M : Type 1} (𝓤 : URA M) (H : Heap 𝓤) (A : Atoms 𝓤) (W : Given
       move ! (2 ∷ 0 ∷ []) $ use2 W (raw (At 𝓤 H A mem run .pre to)) asked $ frame ! $ done !)
 
   abbrev Said : Done → List Float → Type 0
-  Said r zs = read (doneOf r) zs ≡ readOf (mulCall (d .state) (now (d .square)) ys)
+  Said r zs = read (doneOf r) zs ≡ markedRead (markedMul (d .state) (now (d .square)) ys)
 
   exits : (r : Done) (u : Val) (zs : List Float) → Said r zs → length zs ≡ length ys
       → ent 𝓤 (⋆ 𝓤 H A (‵ (S.the-row .own r (u ∷ [])) ∷ (‵ (flft κ q) ⊛ ‵ (flft κ′ q′) ⊛ ‵ ftrue) ∷ ‵ (finally f64 γ zs) ∷ ‵ Own ∷ [])) (Post u)
@@ -194,4 +194,4 @@ mul-qt-b-spec 𝓤 H 𝓜 𝓖 𝓡 =
     entered 𝓤 H (tripleOf 𝓤 H (𝓖 .A) mul.signature (mul.spec 𝓤 H (𝓖 .A) (𝓜 .mem) (𝓡 .run)))
     (tables 𝓤 H 𝓜 𝓡 code.env .C) (tables 𝓤 H 𝓜 𝓡 code.env .Λ) #mul-qt-b code.function (code.unfolded 𝓤 H 𝓜 𝓡)
     (mul-meets 𝓤 H (𝓖 .A) (givenOf 𝓤 H 𝓜 𝓖) (𝓜 .mem) (𝓡 .run) (tablesOf 𝓤 H 𝓜 (tables 𝓤 H 𝓜 𝓡 code.env))
-    (cited 𝓤 H (At 𝓤 H (𝓖 .A) (𝓜 .mem) (𝓡 .run)) 𝓜 𝓡 code.env #mul-read at-def.routine code.calls-factor·cholesky·mul-read (at-thm.met 𝓤 H 𝓜 𝓖 𝓡)))
+    (cited 𝓤 H (At 𝓤 H (𝓖 .A) (𝓜 .mem) (𝓡 .run)) 𝓜 𝓡 code.env #mul-read at-def.routine code.calls-calls·cholesky·mul-read (at-thm.met 𝓤 H 𝓜 𝓖 𝓡)))

@@ -33,9 +33,9 @@ use denote.Triple.Spec.{Meets, tripleOf}
 use denote.Triple.Table.{entered}
 use denote.Triple.Walked.{says, Stays, stay-none, stay-none-slice, walkOf, AllGo, goes-none, goes-none-slice, Walks, ends-at, walked, walk-meets}
 use denote.Exit.{yes}
-use Rattle.factor.specs.declared.state.State.{State}
-use Rattle.factor.proofs.state.State as Q
-use Rattle.factor.proofs.state.State.Laws as Q′
+use Rattle.calls.specs.declared.state.State.{State}
+use Rattle.calls.proofs.state.State as Q
+use Rattle.calls.proofs.state.State.Laws as Q′
 use Rattle.reader.specs.declared.reader.CholeskyFactor.{CholeskyFactor}
 use Rattle.reader.proofs.reader.CholeskyFactor as T
 use Rattle.reader.proofs.reader.CholeskyFactor.Laws as T′

@@ -47,18 +47,18 @@ use Rattle.leaves.specs.Reply.{doneOf}
 use Rattle.leaves.specs.declared.reply.Done.{Done}
 use Rattle.leaves.proofs.reply.Done as S
 use Rattle.leaves.proofs.reply.Done.Laws as S′
-use Rattle.factor.specs.HeldCalls.{solveCall}
-use Rattle.factor.specs.Outcome.{read, readOf}
-use Rattle.factor.specs.declared.state.State.{State}
-use Rattle.factor.proofs.state.State as Q
-use Rattle.factor.proofs.state.State.Laws as Q′
+use Rattle.calls.specs.HeldCalls.{markedSolve, markedRead}
+use Rattle.factor.specs.Outcome.{read}
+use Rattle.calls.specs.declared.state.State.{State}
+use Rattle.calls.proofs.state.State as Q
+use Rattle.calls.proofs.state.State.Laws as Q′
 use Rattle.reader.specs.declared.reader.CholeskyFactor.{CholeskyFactor}
 use Rattle.reader.proofs.reader.CholeskyFactor as T
 use Rattle.reader.proofs.reader.CholeskyFactor.Laws as T′
-use Rattle.factor.proofs.cholesky.solve_read as at
-use Rattle.factor.proofs.cholesky.solve_read.Symbol as at-def
-use Rattle.factor.proofs.cholesky.solve_read.Symbol.{name as #solve-read}
-use Rattle.factor.proofs.cholesky.solve_read.Met as at-thm
+use Rattle.calls.proofs.cholesky.solve_read as at
+use Rattle.calls.proofs.cholesky.solve_read.Symbol as at-def
+use Rattle.calls.proofs.cholesky.solve_read.Symbol.{name as #solve-read}
+use Rattle.calls.proofs.cholesky.solve_read.Met as at-thm
 use Rattle.reader.proofs.reader.solve.Key.{name as #solve}
 use Rattle.reader.proofs.reader.solve as solve
 use Rattle.reader.proofs.reader.solve.Statement as stated
@@ -165,7 +165,7 @@ module _ {M : Type 1} (𝓤 : URA M) (H : Heap 𝓤) (A : Atoms 𝓤) (W : Given
       move ! (3 ∷ 0 ∷ []) $ fjoin ! $ owned ! Q.the-row (Is Q.the-row) (LL.makes Q.the-type Q′.the-plain 𝓤 H A) (d .state) (vst ∷ []) ps $ fjoin ! $ move ! (4 ∷ 0 ∷ []) $ use2 W (raw (At 𝓤 H A mem run .pre to)) asked $ frame ! $ frame ! $ frame ! $ done !)
 
   abbrev Said : Done → List Float → Type 0
-  Said r zs = read (doneOf r) zs ≡ readOf (solveCall (d .state) (now ord) (now rhs) (now (d .square)) ys)
+  Said r zs = read (doneOf r) zs ≡ markedRead (markedSolve (d .state) (now ord) (now rhs) (now (d .square)) ys)
 
   exits : (r : Done) (u : Val) (zs : List Float) → Said r zs → length zs ≡ length ys
       → ent 𝓤 (⋆ 𝓤 H A (‵ (S.the-row .own r (u ∷ [])) ∷ (‵ (flft κ q) ⊛ ‵ (flft κ₁ q₁) ⊛ ‵ (flft κ₂ q₂) ⊛ ‵ (flft κ₃ q₃) ⊛ ‵ ftrue) ∷ ‵ (finally f64 γ zs) ∷ (‵ OwnR ⊛ (‵ OwnO ⊛ ‵ Own)) ∷ [])) (Post u)
@@ -225,4 +225,4 @@ solve-spec 𝓤 H 𝓜 𝓖 𝓡 =
     entered 𝓤 H (tripleOf 𝓤 H (𝓖 .A) solve.signature (solve.spec 𝓤 H (𝓖 .A) (𝓜 .mem) (𝓡 .run)))
     (tables 𝓤 H 𝓜 𝓡 code.env .C) (tables 𝓤 H 𝓜 𝓡 code.env .Λ) #solve code.function (code.unfolded 𝓤 H 𝓜 𝓡)
     (solve-meets 𝓤 H (𝓖 .A) (givenOf 𝓤 H 𝓜 𝓖) (𝓜 .mem) (𝓡 .run) (tablesOf 𝓤 H 𝓜 (tables 𝓤 H 𝓜 𝓡 code.env))
-    (cited 𝓤 H (At 𝓤 H (𝓖 .A) (𝓜 .mem) (𝓡 .run)) 𝓜 𝓡 code.env #solve-read at-def.routine code.calls-factor·cholesky·solve-read (at-thm.met 𝓤 H 𝓜 𝓖 𝓡)))
+    (cited 𝓤 H (At 𝓤 H (𝓖 .A) (𝓜 .mem) (𝓡 .run)) 𝓜 𝓡 code.env #solve-read at-def.routine code.calls-calls·cholesky·solve-read (at-thm.met 𝓤 H 𝓜 𝓖 𝓡)))

@@ -42,11 +42,11 @@ use Rattle.leaves.specs.Reply.{doneOf}
 use Rattle.leaves.specs.declared.reply.Done.{Done}
 use Rattle.leaves.proofs.reply.Done as S
 use Rattle.leaves.proofs.reply.Done.Laws as S′
-use Rattle.factor.specs.HeldCalls.{solveCall}
-use Rattle.factor.specs.Outcome.{Read, read, readOf}
-use Rattle.factor.specs.declared.state.State.{State}
-use Rattle.factor.proofs.state.State as Q
-use Rattle.factor.proofs.state.State.Laws as Q′
+use Rattle.calls.specs.HeldCalls.{markedSolve, markedRead}
+use Rattle.factor.specs.Outcome.{Read, read}
+use Rattle.calls.specs.declared.state.State.{State}
+use Rattle.calls.proofs.state.State as Q
+use Rattle.calls.proofs.state.State.Laws as Q′
 use Rattle.reader.specs.declared.reader.CholeskyFactor.{CholeskyFactor}
 use Rattle.reader.proofs.reader.CholeskyFactor as T
 use Rattle.reader.proofs.reader.CholeskyFactor.Laws as T′
@@ -197,7 +197,7 @@ module _ {M : Type 1} (𝓤 : URA M) (H : Heap 𝓤) (A : Atoms 𝓤) (W : Given
 
   -- what a call through the reader f shows
   abbrev shown : CholeskyFactor → Read
-  shown f = readOf (solveCall (f .state) (now ord) (now rhs) (now (f .square)) ys)
+  shown f = markedRead (markedSolve (f .state) (now ord) (now rhs) (now (f .square)) ys)
 
   exits : Is Q.the-row st (vst ∷ []) → (r : Done) (u : Val) (zs : List Float) → read (doneOf r) zs ≡ shown made → length zs ≡ length ys
       → ent 𝓤 (⋆ 𝓤 H A (‵ (S.the-row .own r (u ∷ [])) ∷ (‵ (flft κ q) ⊛ ‵ (flft κ₁ q₁) ⊛ ‵ (flft κ₂ q₂) ⊛ ‵ (flft κ₃ q₃) ⊛ ‵ ftrue) ∷ ‵ (finally f64 γ zs) ∷ (‵ Own ⊛ (‵ OwnO ⊛ ‵ OwnR)) ∷ [])) (Post u)

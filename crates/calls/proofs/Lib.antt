@@ -1,0 +1,23 @@
+-- Laws that belong to no one function.
+pub mod Passed
+pub mod Ways
+pub mod Counts
+pub mod Examples
+pub mod Backs
+pub mod Widens
+pub mod Damps
+pub mod Measured
+pub mod Resting
+pub mod Rescaled
+pub mod OneMeasure
+pub mod OneScaling
+pub mod Helds
+pub mod OneDamped
+pub mod OneHeld
+pub mod Searches
+pub mod OneZero
+pub mod OneSearch
+pub mod Factors
+pub mod Leavings
+pub mod Factorings
+pub mod OneFactor

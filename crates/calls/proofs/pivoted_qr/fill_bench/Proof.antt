@@ -1,0 +1,62 @@
+-- `calls::pivoted_qr::fill_bench` meets its contract. Assumes nothing.
+use mathlib.Core.Path.{sym}
+use borrow.Author.Needs.{needs}
+use lib.Seq.{length-take-le}
+use Rattle.calls.proofs.Factors.{bench-filled}
+use Rattle.calls.proofs.pivoted_qr.fill_bench.Statement.{statement}
+use Rattle.calls.proofs.pivoted_qr.fill_bench.Tie as tie
+
+mul-p : tie.Need-mul-p
+mul-p c = search needs
+
+slice-relend-prefix-free-columns : tie.Need-slice-relend-prefix-free-columns
+slice-relend-prefix-free-columns c = search needs
+
+slice-aggregate-free-columns : tie.Need-slice-aggregate-free-columns
+slice-aggregate-free-columns c = sym (length-take-le _ _ (search needs))
+
+free-columns-requires : tie.Need-free-columns-requires
+free-columns-requires c κs = search needs
+
+slice-aggregate-copy : tie.Need-slice-aggregate-copy
+slice-aggregate-copy c = sym (length-take-le _ _ (search needs))
+
+mul-copy : tie.Need-mul-copy
+mul-copy c = search needs
+
+sub-copy : tie.Need-sub-copy
+sub-copy c = search needs
+
+part-copy-start : tie.Need-part-copy-start
+part-copy-start c = search needs
+
+part-copy-end : tie.Need-part-copy-end
+part-copy-end c = search needs
+
+copy-requires : tie.Need-copy-requires
+copy-requires c κs = search needs
+
+same-length : tie.Need-same-length
+same-length c = search needs
+
+returns : tie.Need-returns
+returns c =
+    let g = c .before .before .before .before .before .before .before .before .before .before .before .before .args in
+    bench-filled (g .m) (g .n) (g .marks) (g .free) (g .jacobian .now) (g .residuals .now) (c .before .before .before .before .before .before .before .before .before .before .before .before .pre .0) (g .bench .now) _ _ (c .before .before .before .before .before .before .before .before .before .before .before .before .pre .1) (c .before .before .before .before .before .before .before .free-columns .ensures) (c .before .before .copy .ensures)
+
+pub fill-bench-spec : {M : Type 1} → statement M
+fill-bench-spec =
+    tie.close
+    (tie.spec
+    mul-p
+    slice-relend-prefix-free-columns
+    slice-aggregate-free-columns
+    free-columns-requires
+    slice-aggregate-copy
+    mul-copy
+    sub-copy
+    part-copy-start
+    part-copy-end
+    copy-requires
+    same-length
+    returns)

@@ -1,0 +1,39 @@
+-- `frozen::marks::mark_past` meets its contract. Assumes nothing.
+use Prim.Native.Nat.{_<_}
+use mathlib.Core.Path.{_≡_, refl, _∙_}
+use borrow.Author.Needs.{needs}
+use Rattle.frozen.specs.Frozen.{markPast}
+use Rattle.frozen.proofs.Turns.{next-below, past-turn, past-end}
+use Rattle.frozen.proofs.marks.mark_past.Statement.{statement}
+use Rattle.frozen.proofs.marks.mark_past.Tie as tie
+
+abbrev Inv-loop : tie.InvT-loop
+Inv-loop n marks x₀ left₀ x left = (x < 65536) × (markPast left x ≡ markPast n marks)
+
+abbrev μ-loop : tie.MeasureT-loop
+μ-loop n marks x₀ left₀ x left = left
+
+loop-holds : tie.Need-loop-holds Inv-loop μ-loop
+loop-holds c = (search needs, refl)
+
+next-of-requires : tie.Need-next-of-requires Inv-loop μ-loop
+next-of-requires c κs = search needs
+
+sub-left : tie.Need-sub-left Inv-loop μ-loop
+sub-left c = search needs
+
+loop-less : tie.Need-loop-less Inv-loop μ-loop
+loop-less c = search needs
+
+loop-again : tie.Need-loop-again Inv-loop μ-loop
+loop-again c =
+    let l = c .before .before .loop in
+    rw (c .next-of .ensures) (next-below (l .x) (l .inv .0), past-turn (l .left) (l .x) (c .before .loop-test .taken) ∙ l .inv .1)
+
+returns : tie.Need-returns Inv-loop μ-loop
+returns c = let l = c .before .loop in past-end (l .left) (l .x) _ (search needs) (l .inv .1)
+
+pub mark-past-spec : {M : Type 1} → statement M
+mark-past-spec =
+    tie.close
+    (tie.spec Inv-loop μ-loop loop-holds next-of-requires sub-left loop-less loop-again returns)
