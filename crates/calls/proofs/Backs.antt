@@ -1,9 +1,9 @@
 -- The way to the problem without the frozen columns, and back: what is lent to its call, and how the outcome is read as one of the lent
 -- problem. Assumes nothing.
-use mathlib.Core.Path.{_≡_, refl, sym, ap, subst, _∙_}
+use mathlib.Core.Path.{_≡_, refl, sym, ap, _∙_}
 use mathlib.Core.List.{List, _∷_, _++_}
-use Prim.Native.Nat.{ℕ, zero, suc, _*_, _≤_}
-use native.Mathlib.Nat.{not-suc-le-zero, le-of-suc-le-suc, mul-le-mul}
+use Prim.Native.Nat.{ℕ, zero, suc, _≤_}
+use native.Mathlib.Nat.{not-suc-le-zero, le-of-suc-le-suc}
 use native.Mathlib.Omega.{arith}
 use lib.ListN.{length, take, drop, replicate}
 use lib.Seq.{length-take-le, take-at}
@@ -22,6 +22,7 @@ use Rattle.calls.specs.declared.state.State.{State}
 use Rattle.calls.specs.State.{markedHeld, marked, marksIn, cols, whole, withoutFrozen}
 use Rattle.calls.specs.Outcome.{markedTold, markedEnded, toldAs, endedAs, narrowedIn, emptiedBy, emptiedStore}
 use Rattle.calls.specs.inner.Reducible.{Reducible}
+use Rattle.calls.proofs.Resting.{counted-few, counted-in, small-fits as room-fits, small-long as room-long}
 use Rattle.calls.proofs.Passed.{Ready}
 
 -- ---- with no mark: the call that knows none
@@ -41,10 +42,10 @@ fresh-taken (suc k) (suc n) v h = ap (λ (l : List _). v ∷ l) (fresh-taken k n
 
 module _ (st : State) (store : List Float) (shortest : ℕ) (h : Ready st store shortest) {free : ℕ} (f : free ≡ cols st) where
   pub ready-reducible : Reducible (st .n) (st .marks) free store
-  ready-reducible = subst (λ (k : ℕ). Reducible (st .n) (st .marks) k store) (sym f) (h .reducible)
+  ready-reducible = counted-in h f
 
   pub free-few : free ≤ 16
-  free-few = let a = ready-reducible .fits in let b = ready-reducible .few in omega arith
+  free-few = counted-few h f
 
   -- an order list, or any other with an entry for each column
   pub first-fits : {A : Type 0} (xs : List A) → st .n ≤ length xs → free ≤ length xs
@@ -54,14 +55,10 @@ module _ (st : State) (store : List Float) (shortest : ℕ) (h : Ready st store 
   first-long xs l = length-take-le free xs (first-fits xs l)
 
   pub small-fits : {need : ℕ} (r : List Float) → need ≡ storeNeed free → r ≡ replicate 320 one → need ≤ length r
-  small-fits r e q =
-      let l : length r ≡ 320 = ap length q in
-      let k : free * free ≤ 16 * 16 = mul-le-mul free-few free-few in
-      let m = free-few in
-      omega arith
+  small-fits r e q = room-fits q e free-few
 
   pub small-long : {need : ℕ} (r : List Float) → need ≡ storeNeed free → r ≡ replicate 320 one → length (take need r) ≡ need
-  small-long {need} r e q = length-take-le need r (small-fits r e q)
+  small-long r e q = room-long q e free-few
 
   pub step-fits : (r : List Float) → r ≡ replicate 16 plusZero → free ≤ length r
   step-fits r q = lent-fits free r q free-few

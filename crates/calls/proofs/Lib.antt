@@ -12,10 +12,9 @@ pub mod Rescaled
 pub mod OneMeasure
 pub mod OneScaling
 pub mod Helds
-pub mod OneDamped
-pub mod OneHeld
 pub mod Searches
-pub mod OneZero
+pub mod OneSolves
+pub mod OneHeld
 pub mod OneSearch
 pub mod Factors
 pub mod Leavings

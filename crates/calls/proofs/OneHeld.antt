@@ -1,19 +1,14 @@
 -- No second outcome fits a held call's contract: `Post` is what the source's `ensures` says. Assumes nothing.
-use mathlib.Core.Path.{_≡_, sym, ap, _∙_}
-use mathlib.Core.List.{List}
+use mathlib.Core.Path.{_≡_, sym, _∙_}
 use contract.Lifetimes.{Lfts}
 use denote.Ref.{now}
 use denote.Triple.Clauses.{AtExit}
 use borrow.Fn.World.{ArgsD}
 use borrow.Fn.Kinds.{endedOf}
-use lib.Ieee.{Float}
-use Rattle.leaves.specs.Reply.{doneOf}
 use Rattle.leaves.specs.declared.reply.Done.{Done}
-use Rattle.leaves.proofs.Replies.{doneOf-same}
 use Rattle.factor.proofs.Answers.{read-same}
-use Rattle.calls.specs.declared.state.State.{State}
 use Rattle.calls.specs.declared.state.Told.{Told}
-use Rattle.calls.specs.Outcome.{MarkedEnded, markedEnded}
+use Rattle.calls.proofs.OneSolves.{done-same}
 use Rattle.calls.proofs.cholesky.solve.{signature as solve-signature}
 use Rattle.calls.proofs.cholesky.solve.Reads as solve
 use Rattle.calls.proofs.cholesky.solve.Kinds as solve-kinds
@@ -27,28 +22,15 @@ use Rattle.calls.proofs.cholesky.mul_read.{signature as mul-read-signat
 use Rattle.calls.proofs.cholesky.mul_read.Reads as mul-read
 use Rattle.calls.proofs.cholesky.mul_read.Kinds as mul-read-kinds
 
--- a call's answer and state, and both lent slices after it
-abbrev tells : Done → State → Told
-tells d q = record { answer = d; state = q }
-
-ended-same : (r t : Told) {s u o p : List Float} → markedEnded (doneOf (r .answer)) (r .state) s o ≡ markedEnded (doneOf (t .answer)) (t .state) u p → (r ≡ t) × (s ≡ u) × (o ≡ p)
-ended-same r t e =
-    let a = doneOf-same (r .answer) (t .answer) (ap (λ (x : MarkedEnded (Unit {0})). x .reply) e) in
-    let b = ap (λ (x : MarkedEnded (Unit {0})). x .state) e in (
-      ap (λ (d : Done). tells d (r .state)) a ∙ ap (λ (q : State). tells (t .answer) q) b,
-      ap (λ (x : MarkedEnded (Unit {0})). x .store) e,
-      ap (λ (x : MarkedEnded (Unit {0})). x .out) e,
-    )
-
 pub solve-one-outcome : (κs : Lfts 4) (a : ArgsD solve-signature κs) (r₁ r₂ : Told) (s₁ s₂ : AtExit (endedOf 4 solve-kinds.ps solve-kinds.r) κs)
     → solve.Post κs a r₁ s₁ → solve.Post κs a r₂ s₂
     → (r₁ ≡ r₂) × (now (s₁ .1 .0) ≡ now (s₂ .1 .0)) × (now (s₁ .1 .1 .1 .1 .0) ≡ now (s₂ .1 .1 .1 .1 .0))
-solve-one-outcome κs a r₁ r₂ s₁ s₂ p q = ended-same r₁ r₂ (p ∙ sym q)
+solve-one-outcome κs a r₁ r₂ s₁ s₂ p q = done-same r₁ r₂ (p ∙ sym q)
 
 pub mul-qt-b-one-outcome : (κs : Lfts 2) (a : ArgsD mul-qt-b-signature κs) (r₁ r₂ : Told) (s₁ s₂ : AtExit (endedOf 2 mul-qt-b-kinds.ps mul-qt-b-kinds.r) κs)
     → mul-qt-b.Post κs a r₁ s₁ → mul-qt-b.Post κs a r₂ s₂
     → (r₁ ≡ r₂) × (now (s₁ .1 .0) ≡ now (s₂ .1 .0)) × (now (s₁ .1 .1 .0) ≡ now (s₂ .1 .1 .0))
-mul-qt-b-one-outcome κs a r₁ r₂ s₁ s₂ p q = ended-same r₁ r₂ (p ∙ sym q)
+mul-qt-b-one-outcome κs a r₁ r₂ s₁ s₂ p q = done-same r₁ r₂ (p ∙ sym q)
 
 pub solve-read-one-outcome : (κs : Lfts 4) (a : ArgsD solve-read-signature κs) (r₁ r₂ : Done) (s₁ s₂ : AtExit (endedOf 4 solve-read-kinds.ps solve-read-kinds.r) κs)
     → solve-read.Post κs a r₁ s₁ → solve-read.Post κs a r₂ s₂ → (r₁ ≡ r₂) × (now (s₁ .1 .1 .1 .1 .0) ≡ now (s₂ .1 .1 .1 .1 .0))
