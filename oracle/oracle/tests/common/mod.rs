@@ -4,6 +4,7 @@
 use api::Mode;
 use oracle::engines::{PLAIN, SHOWN, Working};
 use oracle::rooms::Rooms;
+use oracle::sample::marked_case;
 use oracle::script::Item;
 
 pub fn both(test: fn(&dyn Working)) {
@@ -19,24 +20,9 @@ pub fn bits(v: &[f64]) -> Vec<u64> {
 pub fn played(e: &dyn Working, m: usize, marks: u16, jacobian: &[f64], residuals: &[f64]) -> Rooms {
     let n = jacobian.len() / m;
     let mut rooms = Rooms::none();
-    let lent = Item::Rooms {
-        store: n * n + 4 * n,
-        order: n,
-        bench: m * n + m,
-        out: n,
-        seed: 5,
-    };
-    rooms.play(e, &lent);
-    rooms.play(
-        e,
-        &Item::Factor {
-            m,
-            n,
-            marks,
-            jacobian: jacobian.to_vec(),
-            residuals: residuals.to_vec(),
-        },
-    );
+    for item in &marked_case(m, n, marks, jacobian, residuals, &[])[..2] {
+        rooms.play(e, item);
+    }
     rooms
 }
 
