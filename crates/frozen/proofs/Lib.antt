@@ -1,4 +1,5 @@
 -- Laws that belong to no one function.
+pub mod Unmarked
 pub mod Turns
 pub mod Moves
 pub mod Runs
