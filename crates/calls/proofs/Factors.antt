@@ -1,13 +1,12 @@
--- Factoring with frozen columns: the reduced problem's tests, what its factoring does not look at, and how its outcome is laid out. Assumes
--- nothing.
+-- Factoring with its tests passed: the free columns gathered in the bench, and the tests of the problem that they are. Assumes nothing.
 use Prim.Native.Nat.{ℕ, suc, _+_, _-_, _*_, _≤_}
 use mathlib.Core.Path.{_≡_, refl, sym, ap, _∙_}
 use mathlib.Core.Bool.{Bool, true, false, not, _||_, and-eq-true-iff}
-use mathlib.Core.List.{List, [], _∷_, _++_}
+use mathlib.Core.List.{List, [], _∷_, _++_, append-assoc}
 use native.Mathlib.Nat.{suc-mul, mul-comm, mul-le-mul, le-refl}
 use native.Mathlib.Omega.{arith}
 use lib.Dec.{ltb, eqb}
-use lib.ListN.{length, take, drop, length-append, length-drop, drop-of-length-le}
+use lib.ListN.{length, take, drop, drop-of-length-le}
 use lib.Seq.{take-all, take-add, length-take-le}
 use lib.Ieee.{Float}
 use borrow.Author.Tests.{ltb-false, le-ltb, eqb-false, not-false}
@@ -16,11 +15,14 @@ use Rattle.leaves.specs.Refusing.{NoneHold}
 use Rattle.leaves.specs.Vector.{copy}
 use Rattle.leaves.specs.Tests.{outside, Test, firstOf, allFinite}
 use Rattle.leaves.proofs.Refusals.{passed-iff, none-of-both}
-use Rattle.leaves.proofs.Insides.{neither, Inside, inside, within, square-small, jacobian-small}
+use Rattle.leaves.proofs.Insides.{neither, Inside, inside, within}
 use Rattle.leaves.proofs.Folds.{nonzero, copy-leaves}
-use Rattle.leaves.proofs.Overs.{append-nil, two-parts, second-long}
+use Rattle.leaves.proofs.Overs.{append-nil}
 use Rattle.frozen.specs.Frozen.{marksOf, markPast, freeCount, freeColumns}
 use Rattle.frozen.proofs.Blocks.{columns-length, marks-length, columns-done}
+use Rattle.frozen.proofs.Runs.{two-laid}
+use Rattle.frozen.proofs.Spreads.{second-long}
+use Rattle.frozen.proofs.Unmarked.{none-set, columns-whole}
 use Rattle.frozen.specs.Moved.{columnsCall}
 use Rattle.factor.specs.State.{storeNeed, benchNeed}
 use Rattle.factor.specs.Factoring as plain
@@ -61,28 +63,42 @@ module _ (m n marks : ℕ) (jacobian residuals : List Float) (store order bench 
   abbrev pub laterTests : List Test
   laterTests = (not (allFinite (take (m * n) jacobian)), 6) ∷ (not (allFinite (take m residuals)), 6) ∷ (eqb (freeCount (marksOf n marks)) 0, 9) ∷ []
 
-  pub record Ready : Type 0 where
-    pub factorable : Factorable m n marks (freeCount (marksOf n marks)) jacobian residuals
-    pub lengths : Lengths m n (length jacobian) (length residuals) store order bench
+  module _ {c free : ℕ} (e : c ≡ firstOf (markedFactorTests m n marks jacobian residuals store order bench)) (z : c ≡ 0) (f : free ≡ freeCount (marksOf n marks)) where
+    passed : NoneHold (lengthTests m n marks (length jacobian) (length residuals) store order bench) × NoneHold laterTests
+    passed =
+        none-of-both (lengthTests m n marks (length jacobian) (length residuals) store order bench) laterTests
+        (passed-iff (markedFactorTests m n marks jacobian residuals store order bench) refl .0 (sym e ∙ z))
 
-  pub factor-ready : firstOf (markedFactorTests m n marks jacobian residuals store order bench) ≡ 0 → Ready
-  factor-ready e =
-      let ts = lengthTests m n marks (length jacobian) (length residuals) store order bench in
-      let h = none-of-both ts laterTests (passed-iff (markedFactorTests m n marks jacobian residuals store order bench) refl .0 e) in
-      let l = lengths-of m n marks (length jacobian) (length residuals) store order bench (h .0) in
-      record {
-        factorable = record {
-          inside = l .inside;
-          counted = refl;
-          some = nonzero (freeCount (marksOf n marks)) (eqb-false (freeCount (marksOf n marks)) 0 (h .1 .1 .1 .0));
-          fits = free-count-fits n marks;
-          jacobian-long = l .jacobian-long;
-          residuals-long = l .residuals-long;
-          jacobian-finite = not-false (allFinite (take (m * n) jacobian)) (h .1 .0);
-          residuals-finite = not-false (allFinite (take m residuals)) (h .1 .1 .0);
-        };
-        lengths = l;
-      }
+    pub long-enough : Lengths m n (length jacobian) (length residuals) store order bench
+    long-enough = lengths-of m n marks (length jacobian) (length residuals) store order bench (passed .0)
+
+    pub factorable : Factorable m n marks free jacobian residuals
+    factorable = record {
+      inside = long-enough .inside;
+      counted = f;
+      some = (let k = nonzero (freeCount (marksOf n marks)) (eqb-false (freeCount (marksOf n marks)) 0 (passed .1 .1 .1 .0)) in omega arith);
+      fits = (let k = free-count-fits n marks in omega arith);
+      jacobian-long = long-enough .jacobian-long;
+      residuals-long = long-enough .residuals-long;
+      jacobian-finite = not-false (allFinite (take (m * n) jacobian)) (passed .1 .0);
+      residuals-finite = not-false (allFinite (take m residuals)) (passed .1 .1 .0);
+    }
+
+-- ---- the free columns, gathered where there is room for them alone
+module _ (m n marks : ℕ) (jacobian bench : List Float) (j : m * n ≤ length jacobian) (l : length bench ≡ m * freeCount (marksOf n marks)) where
+  -- with no mark, as a copy of all
+  pub all-gathered : (y : List Float) {d : Reply (Unit {0})} → marks ≡ 0 → (d, y) ≡ copy (take (m * n) jacobian) bench → y ≡ freeColumns m (marksOf n marks) jacobian
+  all-gathered y z e =
+      let f : m * freeCount (marksOf n marks) ≡ m * n = ap (λ (x : ℕ). m * freeCount (marksOf n x)) z ∙ ap (λ (k : ℕ). m * k) (none-set n) in
+      let t : length (take (m * n) jacobian) ≡ length bench = length-take-le (m * n) jacobian j ∙ sym (l ∙ f) in
+      copy-leaves (take (m * n) jacobian) bench y t e ∙ sym (ap (λ (x : ℕ). freeColumns m (marksOf n x) jacobian) z ∙ columns-whole m n jacobian)
+
+  pub free-gathered : (y : List Float) {d : Reply (Unit {0})} → outside m n ≡ false → (d, y) ≡ columnsCall m n marks jacobian bench → y ≡ freeColumns m (marksOf n marks) jacobian
+  free-gathered y i e =
+      let g = freeColumns m (marksOf n marks) jacobian in
+      let done = columns-done m n marks jacobian bench i j g (omega arith) refl in
+      let none : drop (m * freeCount (marksOf n marks)) bench ≡ [] = drop-of-length-le bench {i = m * freeCount (marksOf n marks)} (omega arith) in
+      ap (λ (x : Reply (Unit {0}) × List Float). x .1) (e ∙ sym done) ∙ (ap (λ (x : List Float). g ++ x) none ∙ append-nil g)
 
 -- ---- the free columns of finite columns are finite
 finite-both : (a b : List Float) → allFinite (a ++ b) ≡ true → (allFinite a ≡ true) × (allFinite b ≡ true)
@@ -93,7 +109,7 @@ finite-split m k s h =
     let e : suc k * m ≡ m + k * m = suc-mul k m ∙ omega arith in
     finite-both (take m s) (take (k * m) (drop m s)) (sym (ap allFinite (take-add m (k * m) s)) ∙ (ap (λ (j : ℕ). allFinite (take j s)) (sym e) ∙ h))
 
-pub columns-finite : (m : ℕ) (ms : List Bool) (s : List Float) → allFinite (take (length ms * m) s) ≡ true → allFinite (freeColumns m ms s) ≡ true
+columns-finite : (m : ℕ) (ms : List Bool) (s : List Float) → allFinite (take (length ms * m) s) ≡ true → allFinite (freeColumns m ms s) ≡ true
 unfolding freeColumns allFinite
 columns-finite m [] s h = refl
 columns-finite m (true ∷ ms) s h = columns-finite m ms (drop m s) (finite-split m (length ms) s h .1)
@@ -109,24 +125,9 @@ module _ (m n marks free : ℕ) (jacobian residuals : List Float) (r : Factorabl
       let f = r .fits in
       record { rows-some = i .rows-some; rows-few = i .rows-few; cols-some = r .some; cols-few = (let k = i .cols-few in omega arith) }
 
-  pub free-few : free ≤ 16
-  free-few = small-inside .cols-few
-
-  pub columns-few : n ≤ 16
-  columns-few = inside m n (r .inside) .cols-few
-
-  -- its Jacobian within the lent one's, and its store
+  -- its Jacobian within the lent one's
   pub area-within : m * free ≤ m * n
   area-within = mul-le-mul (le-refl m) (r .fits)
-
-  pub area-small : m * n ≤ 2048
-  area-small = jacobian-small (inside m n (r .inside))
-
-  pub rows-few : m ≤ 128
-  rows-few = inside m n (r .inside) .rows-few
-
-  pub store-small : storeNeed free ≤ 320
-  store-small = let s = square-small small-inside in let k = free-few in omega arith
 
   columns-here : length (marksOf n marks) * m ≡ m * n
   columns-here = rw (marks-length n marks) (mul-comm n m)
@@ -137,7 +138,7 @@ module _ (m n marks free : ℕ) (jacobian residuals : List Float) (r : Factorabl
       let j = r .jacobian-long in
       columns-length m (marksOf n marks) jacobian (omega arith) ∙ ap (λ (c : ℕ). m * c) (sym (r .counted))
 
-  pub gathered-finite : allFinite (freeColumns m (marksOf n marks) jacobian) ≡ true
+  gathered-finite : allFinite (freeColumns m (marksOf n marks) jacobian) ≡ true
   gathered-finite = columns-finite m (marksOf n marks) jacobian (ap (λ (k : ℕ). allFinite (take k jacobian)) columns-here ∙ r .jacobian-finite)
 
   -- its own tests are passed
@@ -159,22 +160,15 @@ module _ (m n marks free : ℕ) (jacobian residuals : List Float) (r : Factorabl
       let more : not (allFinite (take m residuals)) ≡ false = rw (r .residuals-finite) refl in
       passed-iff (plain.factorTests m free g residuals store order bench) refl .1 (within m free small-inside, (three, (six, (more, tt))))
 
-  -- as free_columns and a copy fill the bench
-  pub bench-filled : (b y z : List Float) {d e : Reply (Unit {0})} → length b ≡ benchNeed m free → (d, y) ≡ columnsCall m n marks jacobian (take (m * free) b)
-      → (e, z) ≡ copy (take m residuals) (take (length (y ++ drop (m * free) b) - m * free) (drop (m * free) (y ++ drop (m * free) b)))
-      → take (m * free) (y ++ drop (m * free) b) ++ (z ++ drop (length (y ++ drop (m * free) b) - m * free) (drop (m * free) (y ++ drop (m * free) b)))
-      ≡ freeColumns m (marksOf n marks) jacobian ++ take m residuals
-  bench-filled b y z {d} {e} l ey ez =
-      let g = freeColumns m (marksOf n marks) jacobian in
-      let f : m * freeCount (marksOf n marks) ≡ m * free = ap (λ (c : ℕ). m * c) (sym (r .counted)) in
-      let t : length (take (m * free) b) ≡ m * free = length-take-le (m * free) b (omega arith) in
-      let done = columns-done m n marks jacobian (take (m * free) b) (r .inside) (r .jacobian-long) g (omega arith) refl in
-      let none : drop (m * freeCount (marksOf n marks)) (take (m * free) b) ≡ [] = drop-of-length-le (take (m * free) b) {i = m * freeCount (marksOf n marks)} (omega arith) in
-      let a : y ≡ g = ap (λ (x : Reply (Unit {0}) × List Float). x .1) (ey ∙ sym done) ∙ (ap (λ (x : List Float). g ++ x) none ∙ append-nil g) in
-      let ly : length y ≡ m * free = ap length a ∙ gathered-long in
-      let q : length (y ++ drop (m * free) b) ≡ benchNeed m free = length-append y (drop (m * free) b) ∙ simp length-drop (omega arith) in
-      let w : length (y ++ drop (m * free) b) - m * free ≡ m = omega arith in
+  -- the residuals behind the free columns, as they are gathered and copied
+  pub bench-filled : (b y z : List Float) {d : Reply (Unit {0})} → benchNeed m free ≤ length b → y ≡ freeColumns m (marksOf n marks) jacobian
+      → (d, z) ≡ copy (take m residuals) (take (m * free + m - m * free) (drop (m * free) (y ++ drop (m * free) b)))
+      → take (m * free) (y ++ drop (m * free) b) ++ (z ++ drop (m * free + m - m * free) (drop (m * free) (y ++ drop (m * free) b)))
+      ≡ freeColumns m (marksOf n marks) jacobian ++ (take m residuals ++ drop (benchNeed m free) b)
+  bench-filled b y z l ey ez =
+      let ly : length y ≡ m * free = ap length ey ∙ gathered-long in
+      let w : m * free + m - m * free ≡ m = omega arith in
       let lm : length (take m residuals) ≡ m = length-take-le m residuals (r .residuals-long) in
-      let lz : length (take m residuals) ≡ length (take (length (y ++ drop (m * free) b) - m * free) (drop (m * free) (y ++ drop (m * free) b))) = rw w (lm ∙ sym (second-long (m * free) m b y ly l)) in
-      let c : z ≡ take m residuals = copy-leaves (take m residuals) _ z lz ez in
-      rw w (two-parts (m * free) m g (take m residuals) b y z gathered-long l a c)
+      let lp : length (take (m * free + m - m * free) (drop (m * free) (y ++ drop (m * free) b))) ≡ m = rw w (second-long (m * free) m y b ly l) in
+      let c : z ≡ take m residuals = copy-leaves (take m residuals) _ z (lm ∙ sym lp) ez in
+      two-laid (m * free) (m * free + m) y z b ly (omega arith) ∙ rw (ey, c) (append-assoc (freeColumns m (marksOf n marks) jacobian) (take m residuals) (drop (benchNeed m free) b))

@@ -18,5 +18,6 @@ pub mod OneHeld
 pub mod OneSearch
 pub mod Factors
 pub mod Leavings
+pub mod Surplus
 pub mod Factorings
 pub mod OneFactor

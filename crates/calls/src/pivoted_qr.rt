@@ -4,7 +4,6 @@ use crate::room::store_need;
 use crate::state::FactorTold;
 use crate::state::State;
 use crate::state::empty;
-use crate::state::marked;
 use factor::filled::factor_filled;
 use factor::state::Held;
 use frozen::columns::free_columns;
@@ -12,27 +11,26 @@ use frozen::marks::free_count;
 use frozen::marks::mark_past;
 use frozen::narrow::spread;
 use leaves::pieces::clear_long;
+use leaves::pieces::copy_long;
 use leaves::reply::Ranged;
 use leaves::sizes::outside;
 use leaves::vector::all_finite;
 use leaves::vector::copy;
-use leaves::vector::count;
 ghost use mathlib.Core.Path.{_≡_};
+ghost use mathlib.Core.Bool.{false};
 ghost use mathlib.Core.List.{_++_};
-ghost use Prim.Native.Nat.{_-_, _<_, _≤_};
+ghost use Prim.Native.Nat.{_-_, _*_, _<_, _≤_};
 ghost use lib.ListN.{length, take, drop};
 ghost use Rattle.leaves.specs.Loop.{countFrom};
 ghost use Rattle.leaves.specs.Reply.{rangedOf};
 ghost use Rattle.leaves.specs.Square.{zeros};
-ghost use Rattle.leaves.specs.Tests.{firstOf};
-ghost use Rattle.frozen.specs.Frozen.{marksOf, freeColumns};
+ghost use Rattle.leaves.specs.Tests.{outside as outsideOf, firstOf};
+ghost use Rattle.frozen.specs.Frozen.{marksOf, freeCount, freeColumns};
 ghost use Rattle.frozen.specs.Narrowed.{spreadOut};
 ghost use Rattle.factor.specs.State.{storeNeed, benchNeed};
 ghost use Rattle.factor.specs.Outcome.{written};
-ghost use Rattle.factor.specs.Factoring as plain;
 ghost use Rattle.calls.specs.Factoring.{markedFactored, markedFactorTests, markedFactoring};
-ghost use Rattle.calls.specs.inner.Factorable.{lengthTests, Factorable, frozenAs};
-ghost use Rattle.factor.specs.Filled.{filledAs, filledOf};
+ghost use Rattle.calls.specs.inner.Factorable.{lengthTests, Factorable, stateLeft, storeLeft};
 
 // Tests 2 and 3.
 fn check_lengths(
@@ -105,7 +103,20 @@ fn check_factor(
     if free_count(n, marks) == 0 { 9 } else { 0 }
 }
 
-// The free columns and then the residuals, in a bench of the reduced problem's length.
+// The free columns, one after the other. With no mark they are all of them, and are copied at once.
+fn gather_columns(m: usize, n: usize, marks: u16, jacobian: &[f64], bench: &mut [f64])
+    requires { ⌜ (outsideOf m n ≡ false) × (m * n ≤ length (now jacobian)) ⌝ }
+    requires { ⌜ length (now bench) ≡ m * freeCount (marksOf n marks) ⌝ }
+    ensures { λ _. ⌜ now (bench .exit) ≡ freeColumns m (marksOf n marks) (now (jacobian .entry)) ⌝ }
+{
+    if marks == 0 {
+        copy_long(&jacobian[..m * n], bench);
+    } else {
+        free_columns(m, n, marks, jacobian, bench);
+    }
+}
+
+// The free columns and then the residuals, at the first places of the bench.
 fn fill_bench(
     m: usize,
     n: usize,
@@ -116,32 +127,13 @@ fn fill_bench(
     bench: &mut [f64],
 )
     requires { ⌜ Factorable m n marks free (now jacobian) (now residuals) ⌝ }
-    requires { ⌜ length (now bench) ≡ benchNeed m free ⌝ }
-    ensures { λ _. ⌜ now (bench .exit) ≡ freeColumns m (marksOf n marks) (now (jacobian .entry)) ++ take m (now (residuals .entry)) ⌝ }
+    requires { ⌜ benchNeed m free ≤ length (now bench) ⌝ }
+    ensures { λ _. ⌜ now (bench .exit) ≡ freeColumns m (marksOf n marks) (now (jacobian .entry)) ++ (take m (now (residuals .entry)) ++ drop (benchNeed m free) (now (bench .entry))) ⌝ }
 {
     let p = m * free;
-    free_columns(m, n, marks, jacobian, &mut bench[..p]);
-    copy(&residuals[..m], &mut bench[p..]);
-}
-
-// The reduced problem's factoring, in the lent bench. small: a store for it. order: its order list.
-fn factor_free(
-    m: usize,
-    n: usize,
-    marks: u16,
-    free: usize,
-    jacobian: &[f64],
-    residuals: &[f64],
-    small: &mut [f64],
-    order: &mut [usize],
-    bench: &mut [f64],
-) -> Ranged
-    requires { ⌜ Factorable m n marks free (now jacobian) (now residuals) ⌝ }
-    requires { ⌜ (length (now small) ≡ storeNeed free) × (length (now order) ≡ free) × (length (now bench) ≡ benchNeed m free) ⌝ }
-    ensures { λ r. ⌜ filledAs (rangedOf r) (now (small .exit)) (now (order .exit)) (now (bench .exit)) ≡ filledOf (plain.factorCall m free (freeColumns m (marksOf n marks) (now (jacobian .entry))) (now (residuals .entry)) (now (small .entry)) (now (order .entry)) (zeros (benchNeed m free))) ⌝ }
-{
-    fill_bench(m, n, marks, free, jacobian, residuals, bench);
-    factor_filled(m, free, small, order, bench)
+    let q = p + m;
+    gather_columns(m, n, marks, jacobian, &mut bench[..p]);
+    copy(&residuals[..m], &mut bench[p..q]);
 }
 
 // The order list's remaining places continue the count.
@@ -156,81 +148,66 @@ fn count_on(free: usize, order: &mut [usize])
     }
 }
 
-// Answered: the reduced problem's store at the first places of each part of the lent one, and its order list followed by the count.
-fn leave_answered(n: usize, free: usize, small: &[f64], store: &mut [f64], order: &mut [usize])
-    requires { ⌜ (0 < free) × (free ≤ n) × (n ≤ 16) ⌝ }
-    requires { ⌜ (length (now small) ≡ storeNeed free) × (storeNeed n ≤ length (now store)) × (n ≤ length (now order)) ⌝ }
-    ensures { λ _. ⌜ now (store .exit) ≡ written (spreadOut n free (now (small .entry))) (now (store .entry)) ⌝ }
-    ensures { λ _. ⌜ now (order .exit) ≡ take free (now (order .entry)) ++ (countFrom (n - free) free ++ drop n (now (order .entry))) ⌝ }
+// Past the reduced problem's bench, which its factoring leaves +0, up to where the lent problem's ends.
+fn clear_rest(m: usize, n: usize, free: usize, bench: &mut [f64])
+    requires { ⌜ (m ≤ 128) × (n ≤ 16) × (free ≤ n) × (benchNeed m n ≤ length (now bench)) ⌝ }
+    ensures { λ _. ⌜ now (bench .exit) ≡ take (benchNeed m free) (now (bench .entry)) ++ (zeros (benchNeed m n - benchNeed m free) ++ drop (benchNeed m n) (now (bench .entry))) ⌝ }
 {
-    spread(n, free, small, store);
-    count_on(free, &mut order[..n]);
+    let p = m * free + m;
+    let q = m * n + m;
+    clear_long(&mut bench[p..q]);
 }
 
-// Refused 8: the needed store +0, the order 0 to n − 1.
-fn leave_refused(n: usize, store: &mut [f64], order: &mut [usize])
-    requires { ⌜ n ≤ 16 ⌝ }
-    requires { ⌜ (storeNeed n ≤ length (now store)) × (n ≤ length (now order)) ⌝ }
+// Answered: the reduced problem's store, from the first places of the lent one to the first places of each of its parts. The two overlap, so
+// that it is copied out first.
+fn spread_out(n: usize, free: usize, store: &mut [f64])
+    requires { ⌜ (0 < free) × (free ≤ n) × (n ≤ 16) × (storeNeed n ≤ length (now store)) ⌝ }
+    ensures { λ _. ⌜ now (store .exit) ≡ written (spreadOut n free (take (storeNeed free) (now (store .entry)))) (now (store .entry)) ⌝ }
+{
+    let need = store_need(free);
+    let mut small = room320();
+    copy(&store[..need], &mut small[..need]);
+    spread(n, free, &small[..need], store);
+}
+
+// Refused 8: the needed store +0.
+fn wipe(n: usize, store: &mut [f64])
+    requires { ⌜ (n ≤ 16) × (storeNeed n ≤ length (now store)) ⌝ }
     ensures { λ _. ⌜ now (store .exit) ≡ written (zeros (storeNeed n)) (now (store .entry)) ⌝ }
-    ensures { λ _. ⌜ now (order .exit) ≡ countFrom n 0 ++ drop n (now (order .entry)) ⌝ }
 {
     let need = store_need(n);
     clear_long(&mut store[..need]);
-    count(&mut order[..n]);
 }
 
-// A factoring with frozen columns, its tests passed.
-fn factor_frozen(
-    m: usize,
-    n: usize,
-    marks: u16,
-    free: usize,
-    jacobian: &[f64],
-    residuals: &[f64],
-    store: &mut [f64],
-    order: &mut [usize],
-    bench: &mut [f64],
-) -> FactorTold
-    requires { ⌜ Factorable m n marks free (now jacobian) (now residuals) ⌝ }
-    requires { ⌜ (storeNeed n ≤ length (now store)) × (n ≤ length (now order)) × (benchNeed m n ≤ length (now bench)) ⌝ }
-    ensures { λ r. ⌜ markedFactored (rangedOf (r .answer)) (r .state) (now (store .exit)) (now (order .exit)) (now (bench .exit)) ≡ frozenAs m n marks free (now (jacobian .entry)) (now (residuals .entry)) (now (store .entry)) (now (order .entry)) (now (bench .entry)) ⌝ }
+// The needed store by the answer, where columns are frozen.
+fn leave_store(n: usize, free: usize, answer: Ranged, store: &mut [f64])
+    requires { ⌜ (0 < free) × (free ≤ n) × (n ≤ 16) × (storeNeed n ≤ length (now store)) ⌝ }
+    ensures { λ _. ⌜ now (store .exit) ≡ written (storeLeft n free (rangedOf answer) (now (store .entry))) (now (store .entry)) ⌝ }
 {
-    let need = store_need(free);
-    let p = m * free + m;
-    let q = m * n + m;
-    let mut small = room320();
-    let answer = factor_free(
-        m,
-        n,
-        marks,
-        free,
-        jacobian,
-        residuals,
-        &mut small[..need],
-        &mut order[..free],
-        &mut bench[..p],
-    );
-    clear_long(&mut bench[p..q]);
     match answer {
-        Ranged::Seen(seen) => {
-            leave_answered(n, free, &small[..need], store, order);
-            FactorTold {
-                answer: Ranged::Seen(seen),
-                state: State {
-                    m: m,
-                    n: n,
-                    held: Held::Nothing,
-                    marks: marks,
-                },
-            }
-        }
-        Ranged::Refused(k) => {
-            leave_refused(n, store, order);
-            FactorTold {
-                answer: Ranged::Refused(k),
-                state: empty(),
-            }
-        }
+        Ranged::Seen(seen) => spread_out(n, free, store),
+        Ranged::Refused(k) => wipe(n, store),
+    }
+}
+
+// The answer, and the state by it.
+fn told(m: usize, n: usize, marks: u16, answer: Ranged) -> FactorTold
+    ensures { λ r. ⌜ (rangedOf (r .answer) ≡ rangedOf answer) × (r .state ≡ stateLeft m n marks (rangedOf answer)) ⌝ }
+{
+    match answer {
+        Ranged::Seen(seen) => FactorTold {
+            answer: Ranged::Seen(seen),
+            state: State {
+                m: m,
+                n: n,
+                held: Held::Nothing,
+                marks: marks,
+            },
+        },
+        Ranged::Refused(k) => FactorTold {
+            answer: Ranged::Refused(k),
+            state: empty(),
+        },
     }
 }
 
@@ -257,15 +234,6 @@ pub fn pivoted_qr(
 ) -> FactorTold
     ensures { λ r. ⌜ markedFactored (rangedOf (r .answer)) (r .state) (now (store .exit)) (now (order .exit)) (now (bench .exit)) ≡ markedFactoring m n marks (now (jacobian .entry)) (now (residuals .entry)) (now (store .entry)) (now (order .entry)) (now (bench .entry)) ⌝ }
 {
-    if marks == 0 {
-        let t = factor::pivoted_qr::pivoted_qr(m, n, jacobian, residuals, store, order, bench);
-        let answer = t.answer;
-        let state = t.state;
-        return FactorTold {
-            answer: answer,
-            state: marked(0, state),
-        };
-    }
     let c = check_factor(
         m,
         n,
@@ -277,11 +245,17 @@ pub fn pivoted_qr(
         bench.len(),
     );
     if c != 0 {
-        return FactorTold {
-            answer: Ranged::Refused(c),
-            state: empty(),
-        };
+        return told(m, n, marks, Ranged::Refused(c));
     }
     let free = free_count(n, marks);
-    factor_frozen(m, n, marks, free, jacobian, residuals, store, order, bench)
+    // With no mark and with some the working is called at this one place, so that the compiler builds it in here.
+    fill_bench(m, n, marks, free, jacobian, residuals, bench);
+    let answer = factor_filled(m, free, store, order, bench);
+    if marks == 0 {
+        return told(m, n, marks, answer);
+    }
+    leave_store(n, free, answer, store);
+    count_on(free, &mut order[..n]);
+    clear_rest(m, n, free, bench);
+    told(m, n, marks, answer)
 }

@@ -6,12 +6,16 @@ use mathlib.Core.List.{List, [], _∷_}
 use lib.Dec.{ltb}
 use lib.ListN.{length, take}
 use lib.Ieee.{Float}
+use Rattle.leaves.specs.Reply.{Reply, answered, refused}
 use Rattle.leaves.specs.Square.{zeros}
 use Rattle.leaves.specs.Tests.{outside, Test, allFinite}
-use Rattle.frozen.specs.Frozen.{marksOf, markPast, freeCount, freeColumns}
+use Rattle.leaves.specs.declared.norm.Ranges.{Ranges}
+use Rattle.frozen.specs.Frozen.{marksOf, markPast, freeCount}
+use Rattle.frozen.specs.Narrowed.{spreadOut}
 use Rattle.factor.specs.State.{storeNeed, benchNeed}
-use Rattle.factor.specs.Factoring as plain
-use Rattle.calls.specs.Factoring.{MarkedFactored, factoredIf}
+use Rattle.factor.specs.declared.state.Held.the-variants as held
+use Rattle.calls.specs.declared.state.State.{State}
+use Rattle.calls.specs.State.{noProblem}
 
 -- 2 and 3, of lengths
 abbrev pub lengthTests : ℕ → ℕ → ℕ → ℕ → ℕ → ℕ → ℕ → ℕ → List Test
@@ -31,8 +35,14 @@ pub record Factorable (m n marks free : ℕ) (jacobian residuals : List Float) :
   pub jacobian-finite : allFinite (take (m * n) jacobian) ≡ true
   pub residuals-finite : allFinite (take m residuals) ≡ true
 
--- what is left by the factoring of the free columns
-abbrev pub frozenAs : ℕ → ℕ → ℕ → ℕ → List Float → List Float → List Float → List ℕ → List Float → MarkedFactored
-frozenAs m n marks free jacobian residuals store order bench =
-    let e = plain.factorCall m free (freeColumns m (marksOf n marks) jacobian) residuals (zeros (storeNeed free)) (take free order) (zeros (benchNeed m free)) in
-    factoredIf m n marks free (e .reply) e store order bench
+-- ---- what is left by the factoring of the free columns, by its answer
+
+-- the state: of these sizes and marks with nothing held; refused, the empty one
+abbrev pub stateLeft : ℕ → ℕ → ℕ → Reply Ranges → State
+stateLeft m n marks (answered seen) = record { m = m; n = n; held = held.Nothing; marks = marks }
+stateLeft m n marks (refused k) = noProblem
+
+-- what is written over a store at whose first places the reduced problem's stands
+abbrev pub storeLeft : ℕ → ℕ → Reply Ranges → List Float → List Float
+storeLeft n free (answered seen) store = spreadOut n free (take (storeNeed free) store)
+storeLeft n free (refused k) store = zeros (storeNeed n)

@@ -1,5 +1,7 @@
 -- `calls::pivoted_qr::fill_bench` meets its contract. Assumes nothing.
-use mathlib.Core.Path.{sym}
+use mathlib.Core.Path.{sym, ap, _∙_}
+use Prim.Native.Nat.{ℕ, _*_}
+use native.Mathlib.Omega.{arith}
 use borrow.Author.Needs.{needs}
 use lib.Seq.{length-take-le}
 use Rattle.calls.proofs.Factors.{bench-filled}
@@ -9,14 +11,21 @@ use Rattle.calls.proofs.pivoted_qr.fill_bench.Tie as tie
 mul-p : tie.Need-mul-p
 mul-p c = search needs
 
-slice-relend-prefix-free-columns : tie.Need-slice-relend-prefix-free-columns
-slice-relend-prefix-free-columns c = search needs
+add-q : tie.Need-add-q
+add-q c = search needs
 
-slice-aggregate-free-columns : tie.Need-slice-aggregate-free-columns
-slice-aggregate-free-columns c = sym (length-take-le _ _ (search needs))
+slice-relend-prefix-gather-columns : tie.Need-slice-relend-prefix-gather-columns
+slice-relend-prefix-gather-columns c = search needs
 
-free-columns-requires : tie.Need-free-columns-requires
-free-columns-requires c κs = search needs
+slice-aggregate-gather-columns : tie.Need-slice-aggregate-gather-columns
+slice-aggregate-gather-columns c = sym (length-take-le _ _ (search needs))
+
+gather-columns-requires : tie.Need-gather-columns-requires
+gather-columns-requires c κs =
+    let g = c .before .before .before .before .args in
+    let r = c .before .before .before .before .pre .0 in
+    let l = c .before .before .before .before .pre .1 in
+    ((r .inside, r .jacobian-long), length-take-le (g .m * g .free) (g .bench .now) (omega arith) ∙ ap (λ (k : ℕ). g .m * k) (r .counted))
 
 slice-aggregate-copy : tie.Need-slice-aggregate-copy
 slice-aggregate-copy c = sym (length-take-le _ _ (search needs))
@@ -42,16 +51,17 @@ same-length c = search needs
 returns : tie.Need-returns
 returns c =
     let g = c .before .before .before .before .before .before .before .before .before .before .before .before .args in
-    bench-filled (g .m) (g .n) (g .marks) (g .free) (g .jacobian .now) (g .residuals .now) (c .before .before .before .before .before .before .before .before .before .before .before .before .pre .0) (g .bench .now) _ _ (c .before .before .before .before .before .before .before .before .before .before .before .before .pre .1) (c .before .before .before .before .before .before .before .free-columns .ensures) (c .before .before .copy .ensures)
+    bench-filled (g .m) (g .n) (g .marks) (g .free) (g .jacobian .now) (g .residuals .now) (c .before .before .before .before .before .before .before .before .before .before .before .before .pre .0) (g .bench .now) _ _ (c .before .before .before .before .before .before .before .before .before .before .before .before .pre .1) (c .before .before .before .before .before .before .before .gather-columns .ensures) (c .before .before .copy .ensures)
 
 pub fill-bench-spec : {M : Type 1} → statement M
 fill-bench-spec =
     tie.close
     (tie.spec
     mul-p
-    slice-relend-prefix-free-columns
-    slice-aggregate-free-columns
-    free-columns-requires
+    add-q
+    slice-relend-prefix-gather-columns
+    slice-aggregate-gather-columns
+    gather-columns-requires
     slice-aggregate-copy
     mul-copy
     sub-copy
