@@ -22,6 +22,9 @@ use Rattle.calls.specs.declared.state.GradientTold.{GradientTold}
 use Rattle.calls.specs.declared.state.MeasuredTold.{MeasuredTold}
 use Rattle.calls.specs.declared.state.PlaceTold.{PlaceTold}
 use Rattle.calls.specs.declared.state.TruthTold.{TruthTold}
+use Rattle.calls.proofs.above.above_limit.{signature as above-limit-signature}
+use Rattle.calls.proofs.above.above_limit.Reads as above-limit
+use Rattle.calls.proofs.above.above_limit.Kinds as above-limit-kinds
 use Rattle.calls.proofs.measure.max_a_t_b_scaled.{signature as max-a-t-b-scaled-signature}
 use Rattle.calls.proofs.measure.max_a_t_b_scaled.Reads as max-a-t-b-scaled
 use Rattle.calls.proofs.measure.max_a_t_b_scaled.Kinds as max-a-t-b-scaled-kinds
@@ -72,5 +75,11 @@ truth-told {r = r} {t = t} e f =
 pub is-non-singular-one-outcome : (κs : Lfts 1) (a : ArgsD is-non-singular-signature κs) (r₁ r₂ : TruthTold) (s₁ s₂ : AtExit (endedOf 1 is-non-singular-kinds.ps is-non-singular-kinds.r) κs)
     → is-non-singular.Post κs a r₁ s₁ → is-non-singular.Post κs a r₂ s₂ → (r₁ ≡ r₂) × (now (s₁ .1 .0) ≡ now (s₂ .1 .0))
 is-non-singular-one-outcome κs a r₁ r₂ s₁ s₂ p q =
+    let e = p ∙ sym q in
+    (truth-told (truthOf-same (r₁ .answer) (r₂ .answer) (ap (λ (x : MarkedTold Bool). x .reply) e)) (ap (λ (x : MarkedTold Bool). x .state) e), ap (λ (x : MarkedTold Bool). x .store) e)
+
+pub above-limit-one-outcome : (κs : Lfts 2) (a : ArgsD above-limit-signature κs) (r₁ r₂ : TruthTold) (s₁ s₂ : AtExit (endedOf 2 above-limit-kinds.ps above-limit-kinds.r) κs)
+    → above-limit.Post κs a r₁ s₁ → above-limit.Post κs a r₂ s₂ → (r₁ ≡ r₂) × (now (s₁ .1 .0) ≡ now (s₂ .1 .0))
+above-limit-one-outcome κs a r₁ r₂ s₁ s₂ p q =
     let e = p ∙ sym q in
     (truth-told (truthOf-same (r₁ .answer) (r₂ .answer) (ap (λ (x : MarkedTold Bool). x .reply) e)) (ap (λ (x : MarkedTold Bool). x .state) e), ap (λ (x : MarkedTold Bool). x .store) e)

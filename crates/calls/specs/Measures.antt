@@ -1,13 +1,14 @@
--- 01, module 6, with 02, #108: gradient, norm of Jx, determined and the rank as their callers see them.
+-- 01, module 6, with 02, #108: gradient, the question of #105, norm of Jx, determined and the rank as their callers see them.
 use Prim.Native.Nat.{ℕ}
 use mathlib.Core.Bool.{Bool}
 use mathlib.Core.List.{List, [], _∷_, _++_}
 use lib.ListN.{length, take}
 use lib.Ieee.{Float}
 use Rattle.leaves.specs.Reply.{refused}
+use Rattle.leaves.specs.Tests.{Test}
 use Rattle.leaves.specs.declared.norm.Ranges.{Ranges}
 use Rattle.frozen.specs.Frozen.{freeOf}
-use Rattle.factor.specs.Tests.{finiteTest, finiteNumber, notAbove}
+use Rattle.factor.specs.Tests.{finiteTest, finiteNumber, notAbove, below}
 use Rattle.measures.specs.Measures as plain
 use Rattle.calls.specs.declared.state.State.{State}
 use Rattle.calls.specs.State.{marksIn, cols, whole, withoutFrozen}
@@ -19,6 +20,19 @@ markedGradient st order bnorm store =
     callBy (st .marks) (markedRoomTests st (length store) (length order) ++ (formTest st order ∷ finiteNumber bnorm ∷ (notAbove bnorm, 7) ∷ freeTest st ∷ []))
     (toldAs st (plain.gradientCall (whole st) order bnorm store))
     (restedBy st store (plain.gradientCall (withoutFrozen st) (take (cols st) order) bnorm (narrowedIn st store)))
+    (λ k. markedTold (refused k) st store)
+
+-- 02, #105
+abbrev pub markedAboveTests : State → ℕ → List ℕ → Float → Float → List Test
+markedAboveTests st store order bnorm limit =
+    markedRoomTests st store (length order)
+    ++ (formTest st order ∷ finiteNumber bnorm ∷ finiteNumber limit ∷ (notAbove bnorm, 7) ∷ (below limit, 7) ∷ freeTest st ∷ [])
+
+unfoldable pub markedAbove : State → List ℕ → Float → Float → List Float → MarkedTold Bool
+markedAbove st order bnorm limit store =
+    callBy (st .marks) (markedAboveTests st (length store) order bnorm limit)
+    (toldAs st (plain.aboveCall (whole st) order bnorm limit store))
+    (restedBy st store (plain.aboveCall (withoutFrozen st) (take (cols st) order) bnorm limit (narrowedIn st store)))
     (λ k. markedTold (refused k) st store)
 
 unfoldable pub markedJx : State → List ℕ → List Float → List Float → MarkedTold (Float × Ranges)

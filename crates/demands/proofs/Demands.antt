@@ -2,9 +2,7 @@
 -- They are over the definitions that the contracts of the public functions cite: each contract is one equation with its definition. `proofs/Ties.antt`
 -- says for each function that takes a state without marks, for factoring and for a sheet, that whatever its contract lets it leave (answer, state and every lent
 -- slice) is what `perform c st order store` gives, `factorCall` or `sheetCall`. Beside each contract stands a theorem that no second outcome fits it
--- (`NAME-one-outcome`). The words that the statements use stand in `specs/` of the crates that they speak of (`tools/believed` lists them).
---
--- Assumes nothing.
+-- (`NAME-one-outcome`). The words that the statements use stand in `specs/` of the crates that they speak of (`tools/believed` lists them). Assumes nothing.
 use Prim.Native.Nat.{ℕ, _<_, _≤_}
 use mathlib.Core.Path.{_≡_, sym, _∙_}
 use mathlib.Core.Bool.{true, false}
@@ -87,7 +85,8 @@ pub demand-1-unchanged : (c : Call) (st : State) (order : List ℕ) (store : Lis
 demand-1-unchanged = table.refused-whole
 
 -- It is refused 8 exactly when no condition holds and what document 01 lists for it is not finite: of a call of `factor` or `measures` an answer number
--- (for the gradient also where the Rust gives None, for a scaling also a radius rounded to zero), of the search a number at one of its run's six places ..
+-- (for the gradient also where the Rust gives None, for the question beside it, of 02, #105, a measure before its first yes, for a scaling also a radius
+-- rounded to zero), of the search a number at one of its run's six places ..
 pub demand-1-eight : (c : Call) (st : State) (order : List ℕ) (store : List Float)
     → (numberOf (perform c st order store .answer) ≡ 8) ↔ (NoneHold (testsOf c st order store) × Breaks c st order store)
 demand-1-eight = table.refused-eight
@@ -188,6 +187,7 @@ demand-1-sheet-lines = sheet-lines
 --
 -- The definitions evaluate; the runs against that Rust are those of `oracle/`. The code gives what they give: of the search, whatever meets its
 -- contract; for the other calls and for factoring see `proofs/Ties.antt`. No theorem below is excused by the list: each says itself for which inputs it is.
+-- Beside the gradient stands the question of 02, #105: `proofs/AboveDemands.antt`.
 pub demand-2-contract : (κs : Lfts 4) (a : ArgsD signature κs) (r : SearchTold) (s : AtExit (endedOf 4 kinds.ps kinds.r) κs) → code.Post κs a r s
     → leftAs (found (foundOf (r .answer))) (r .state) (now (s .1 .0)) (now (s .1 .1 .1 .1 .1 .1 .0))
     ≡ perform (search (now (a .1 .1 .1 .0)) (a .1 .1 .1 .1 .0) (a .1 .1 .1 .1 .1 .0) (now (a .1 .1 .1 .1 .1 .1 .0))) (a .0) (now (a .1 .1 .0)) (now (a .1 .0))

@@ -16,13 +16,13 @@ use Rattle.factor.specs.Solve.{scatter, gather, nonSingular}
 use Rattle.measures.specs.Determined.{determinedOf}
 use Rattle.eliminate.specs.Eliminate.{Rows, heads, tails}
 use Rattle.factor.specs.Held.{heldSolved, heldProduct}
-use Rattle.measures.specs.Gradient.{gradient as measure, jxNorm, jxRanges}
+use Rattle.measures.specs.Gradient.{gradient as measure, aboveLimit, jxNorm, jxRanges}
 use Rattle.factor.specs.Outcome.{written}
 use Rattle.factor.specs.Solves.{dampedRoom, dampedNumbers, zeroCall, dampedCall}
-use Rattle.measures.specs.Measures.{finiteOr8, gradientCall, jxCall, determinedCall, nonSingularCall}
+use Rattle.measures.specs.Measures.{finiteOr8, gradientCall, aboveCall, jxCall, determinedCall, nonSingularCall}
 use Rattle.factor.specs.HeldCalls.{solveCall, mulCall}
 use Rattle.measures.specs.Rescale.{scalingTests, rescaled, scalingCall}
-use Rattle.demands.specs.Calls.{StoreAnswer, done, number, ranged, count, truth, scaled, StoreOutcome, storeOutcome, StoreCall, zero-solve, damped-solve, held-solve, held-product, gradient, jx-norm, scaling, determined, non-singular, ofEnded, ofTold, performStore}
+use Rattle.demands.specs.Calls.{StoreAnswer, done, number, ranged, count, truth, scaled, StoreOutcome, storeOutcome, StoreCall, zero-solve, damped-solve, held-solve, held-product, gradient, above, jx-norm, scaling, determined, non-singular, ofEnded, ofTold, performStore}
 use Rattle.factor.specs.declared.state.Held.{Held}
 use Rattle.factor.specs.declared.state.Held.the-variants as held
 use Rattle.factor.specs.declared.state.State.{State}
@@ -73,6 +73,7 @@ effect (damped-solve diag out) st order r =
 effect (held-solve rhs out) st order r = restingIf st r (heldSolved (st .held) (gather (take (st .n) order) rhs) r) out
 effect (held-product out) st order r = restingIf st r (heldProduct (st .held) r) out
 effect (gradient bnorm) st order r = resting (number (measure (gather (take (st .n) order) (r .norms)) bnorm (r .upper) (r .qtb))) st r []
+effect (above bnorm limit) st order r = resting (truth (aboveLimit (gather (take (st .n) order) (r .norms)) bnorm limit (r .upper) (r .qtb))) st r []
 effect (jx-norm x) st order r =
     let xs = gather (take (st .n) order) x in
     resting (ranged (finiteOr8 (jxNorm xs (r .upper)) (jxRanges xs (r .upper)))) st r []
@@ -106,12 +107,13 @@ pub perform-is : (c : StoreCall) (st : State) (order : List ℕ) (s : List Float
       | true ↦ effected st s (effect c st order (load (st .n) s))
       | false ↦ storeRefusal c (testedOf c st order s) st s
     ]
-unfolding performStore shortestOf furtherOf effect finiteOr zeroCall dampedRoom dampedCall solveCall mulCall gradientCall jxCall determinedCall nonSingularCall scalingTests scalingCall
+unfolding performStore shortestOf furtherOf effect finiteOr zeroCall dampedRoom dampedCall solveCall mulCall gradientCall aboveCall jxCall determinedCall nonSingularCall scalingTests scalingCall
 perform-is (zero-solve out) st order s = by-tests (ofEnded done) (eqb (testedOf (zero-solve out) st order s) 0) (chosen (ofEnded done) (effected st s) (allFinite (zeroX st (load (st .n) s))) refl refl) refl
 perform-is (damped-solve diag out) st order s = by-tests (ofEnded done) (eqb (testedOf (damped-solve diag out) st order s) 0) (chosen (ofEnded done) (effected st s) (allFinite (dampedNumbers (dampedL st order diag (load (st .n) s)))) refl refl) refl
 perform-is (held-solve rhs out) st order s = by-tests (ofEnded done) (eqb (testedOf (held-solve rhs out) st order s) 0) (chosen (ofEnded done) (effected st s) (allFinite (heldSolved (st .held) (gather (take (st .n) order) rhs) (load (st .n) s))) refl refl) refl
 perform-is (held-product out) st order s = by-tests (ofEnded done) (eqb (testedOf (held-product out) st order s) 0) (chosen (ofEnded done) (effected st s) (allFinite (heldProduct (st .held) (load (st .n) s))) refl refl) refl
 perform-is (gradient bnorm) st order s = by-tests (ofTold number) (eqb (testedOf (gradient bnorm) st order s) 0) refl refl
+perform-is (above bnorm limit) st order s = by-tests (ofTold truth) (eqb (testedOf (above bnorm limit) st order s) 0) refl refl
 perform-is (jx-norm x) st order s = by-tests (ofTold ranged) (eqb (testedOf (jx-norm x) st order s) 0) refl refl
 perform-is (scaling mode.FirstScaled diag x bound) st order s = by-tests (ofEnded scaled) (eqb (testedOf (scaling mode.FirstScaled diag x bound) st order s) 0) refl refl
 perform-is (scaling mode.FirstUnscaled diag x bound) st order s = by-tests (ofEnded scaled) (eqb (testedOf (scaling mode.FirstUnscaled diag x bound) st order s) 0) refl refl

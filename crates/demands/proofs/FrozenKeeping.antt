@@ -22,7 +22,7 @@ use Rattle.calls.specs.State.{markedHeld, cols}
 use Rattle.calls.specs.Tests.{formTest}
 use Rattle.calls.specs.Outcome.{widened}
 use Rattle.calls.proofs.Passed.{free-count-fits}
-use Rattle.demands.specs.Calls.{zero-solve, damped-solve, held-solve, held-product, gradient, jx-norm, scaling, determined, non-singular}
+use Rattle.demands.specs.Calls.{zero-solve, damped-solve, held-solve, held-product, gradient, above, jx-norm, scaling, determined, non-singular}
 use Rattle.demands.specs.History.{Call, base, search, Outcome, isSolve}
 use Rattle.demands.specs.inner.Helds.{isHeld}
 use Rattle.demands.specs.Refusals.{shortestOf}
@@ -39,6 +39,7 @@ solve-still (base (damped-solve diag out)) st = refl
 solve-still (base (held-solve rhs out)) st = refl
 solve-still (base (held-product out)) st = refl
 solve-still (base (gradient bnorm)) st = refl
+solve-still (base (above bnorm limit)) st = refl
 solve-still (base (jx-norm x)) st = refl
 solve-still (base (scaling md diag x bound)) st = refl
 solve-still (base determined) st = refl
@@ -52,6 +53,7 @@ held-still (base (damped-solve diag out)) st = refl
 held-still (base (held-solve rhs out)) st = refl
 held-still (base (held-product out)) st = refl
 held-still (base (gradient bnorm)) st = refl
+held-still (base (above bnorm limit)) st = refl
 held-still (base (jx-norm x)) st = refl
 held-still (base (scaling md diag x bound)) st = refl
 held-still (base determined) st = refl
@@ -64,6 +66,7 @@ solve-not-held (base (damped-solve diag out)) h = refl
 solve-not-held (base (held-solve rhs out)) h = absurd (true≢false (sym h))
 solve-not-held (base (held-product out)) h = absurd (true≢false (sym h))
 solve-not-held (base (gradient bnorm)) h = refl
+solve-not-held (base (above bnorm limit)) h = refl
 solve-not-held (base (jx-norm x)) h = refl
 solve-not-held (base (scaling md diag x bound)) h = refl
 solve-not-held (base determined) h = refl
@@ -80,6 +83,7 @@ left-rests (base (damped-solve diag out)) h st x r = absurd (true≢false h)
 left-rests (base (held-solve rhs out)) h st x r = (refl, refl)
 left-rests (base (held-product out)) h st x r = (refl, refl)
 left-rests (base (gradient bnorm)) h st x r = (refl, refl)
+left-rests (base (above bnorm limit)) h st x r = (refl, refl)
 left-rests (base (jx-norm y)) h st x r = (refl, refl)
 left-rests (base (scaling md diag y bound)) h st x r = (refl, refl)
 left-rests (base determined) h st x r = (refl, refl)
@@ -102,6 +106,7 @@ module _ (st : State) (x y r t : Room) (b : x .below ≡ y .below) (l : x .ldiag
   left-settles (base (held-solve rhs out)) h = absurd (true≢false (sym h))
   left-settles (base (held-product out)) h = absurd (true≢false (sym h))
   left-settles (base (gradient bnorm)) h = absurd (true≢false (sym h))
+  left-settles (base (above bnorm limit)) h = absurd (true≢false (sym h))
   left-settles (base (jx-norm v)) h = absurd (true≢false (sym h))
   left-settles (base (scaling md diag v bound)) h = absurd (true≢false (sym h))
   left-settles (base determined) h = absurd (true≢false (sym h))
@@ -117,6 +122,7 @@ module _ (st : State) (h : Held) where
   reduced-fresh (base (held-solve rhs out)) = refl
   reduced-fresh (base (held-product out)) = refl
   reduced-fresh (base (gradient bnorm)) = refl
+  reduced-fresh (base (above bnorm limit)) = refl
   reduced-fresh (base (jx-norm x)) = refl
   reduced-fresh (base (scaling md diag x bound)) = refl
   reduced-fresh (base determined) = refl
@@ -130,6 +136,7 @@ module _ (st : State) (h : Held) where
   back-fresh (base (held-solve rhs out)) s e = refl
   back-fresh (base (held-product out)) s e = refl
   back-fresh (base (gradient bnorm)) s e = refl
+  back-fresh (base (above bnorm limit)) s e = refl
   back-fresh (base (jx-norm x)) s e = refl
   back-fresh (base (scaling md diag x bound)) s e = refl
   back-fresh (base determined) s e = refl
@@ -144,6 +151,7 @@ module _ (st : State) (h : Held) where
   further-fresh (base (held-solve rhs out)) order i = absurd (true≢false (sym i))
   further-fresh (base (held-product out)) order i = absurd (true≢false (sym i))
   further-fresh (base (gradient bnorm)) order i = absurd (true≢false (sym i))
+  further-fresh (base (above bnorm limit)) order i = absurd (true≢false (sym i))
   further-fresh (base (jx-norm x)) order i = absurd (true≢false (sym i))
   further-fresh (base (scaling md diag x bound)) order i = absurd (true≢false (sym i))
   further-fresh (base determined) order i = absurd (true≢false (sym i))
@@ -174,6 +182,7 @@ module _ (st : State) (o p : List ℕ) (lo : st .n ≤ length o) (lp : st .n ≤
   shortest-same (base (held-solve rhs out)) = least-same (st .n) (length o) (length p) (min (length rhs) (length out)) lo lp
   shortest-same (base (held-product out)) = refl
   shortest-same (base (gradient bnorm)) = le-ltb (length o) (st .n) lo ∙ sym (le-ltb (length p) (st .n) lp)
+  shortest-same (base (above bnorm limit)) = le-ltb (length o) (st .n) lo ∙ sym (le-ltb (length p) (st .n) lp)
   shortest-same (base (jx-norm x)) = least-same (st .n) (length o) (length p) (length x) lo lp
   shortest-same (base (scaling mode.FirstScaled diag x bound)) = refl
   shortest-same (base (scaling mode.FirstUnscaled diag x bound)) = refl
@@ -193,6 +202,7 @@ module _ (st : State) (o p : List ℕ) (lo : st .n ≤ length o) (lp : st .n ≤
   further-same (base (held-solve rhs out)) = rw order-same
   further-same (base (held-product out)) = refl
   further-same (base (gradient bnorm)) = rw order-same
+  further-same (base (above bnorm limit)) = rw order-same
   further-same (base (jx-norm x)) = rw order-same
   further-same (base (scaling mode.FirstScaled diag x bound)) = refl
   further-same (base (scaling mode.FirstUnscaled diag x bound)) = refl

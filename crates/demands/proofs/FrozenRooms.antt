@@ -19,7 +19,7 @@ use Rattle.factor.proofs.Layouts.{load-lay, load-shaped, leaving-shaped, rested
 use Rattle.calls.specs.declared.state.State.{State}
 use Rattle.calls.specs.State.{cols}
 use Rattle.calls.specs.Outcome.{widened}
-use Rattle.demands.specs.Calls.{zero-solve, damped-solve, held-solve, held-product, gradient, jx-norm, scaling, determined, non-singular}
+use Rattle.demands.specs.Calls.{zero-solve, damped-solve, held-solve, held-product, gradient, above, jx-norm, scaling, determined, non-singular}
 use Rattle.demands.specs.History.{Call, base, search}
 use Rattle.demands.specs.Alike.{Alike, HeldAlike}
 use Rattle.demands.specs.Marked.{storeBack}
@@ -102,6 +102,7 @@ belowLeft (base (damped-solve diag out)) st small r = widened (st .n) (small .be
 belowLeft (base (held-solve rhs out)) st small r = r .below
 belowLeft (base (held-product out)) st small r = r .below
 belowLeft (base (gradient bnorm)) st small r = r .below
+belowLeft (base (above bnorm limit)) st small r = r .below
 belowLeft (base (jx-norm x)) st small r = r .below
 belowLeft (base (scaling md diag x bound)) st small r = r .below
 belowLeft (base determined) st small r = r .below
@@ -114,6 +115,7 @@ ldiagLeft (base (damped-solve diag out)) st small r = padded (st .n) (small .ldi
 ldiagLeft (base (held-solve rhs out)) st small r = r .ldiag
 ldiagLeft (base (held-product out)) st small r = r .ldiag
 ldiagLeft (base (gradient bnorm)) st small r = r .ldiag
+ldiagLeft (base (above bnorm limit)) st small r = r .ldiag
 ldiagLeft (base (jx-norm x)) st small r = r .ldiag
 ldiagLeft (base (scaling md diag x bound)) st small r = r .ldiag
 ldiagLeft (base determined) st small r = r .ldiag
@@ -131,6 +133,7 @@ module _ (st : State) (small s : List Float) where
   store-laid (base (held-solve rhs out)) = refl
   store-laid (base (held-product out)) = refl
   store-laid (base (gradient bnorm)) = refl
+  store-laid (base (above bnorm limit)) = refl
   store-laid (base (jx-norm x)) = refl
   store-laid (base (scaling md diag x bound)) = refl
   store-laid (base determined) = refl
@@ -156,6 +159,7 @@ module _ (st : State) (small s : List Float) where
     left-shaped (base (held-solve rhs out)) = rested-shaped (st .n) (load (st .n) s) shaped
     left-shaped (base (held-product out)) = rested-shaped (st .n) (load (st .n) s) shaped
     left-shaped (base (gradient bnorm)) = rested-shaped (st .n) (load (st .n) s) shaped
+    left-shaped (base (above bnorm limit)) = rested-shaped (st .n) (load (st .n) s) shaped
     left-shaped (base (jx-norm x)) = rested-shaped (st .n) (load (st .n) s) shaped
     left-shaped (base (scaling md diag x bound)) = rested-shaped (st .n) (load (st .n) s) shaped
     left-shaped (base determined) = rested-shaped (st .n) (load (st .n) s) shaped

@@ -21,7 +21,7 @@ use Rattle.factor.specs.inner.Rooms.{Shaped}
 use Rattle.calls.specs.declared.state.State.{State}
 use Rattle.calls.specs.State.{marksIn, cols, withoutFrozen}
 use Rattle.calls.specs.Outcome.{widened}
-use Rattle.demands.specs.Calls.{StoreOutcome, performStore, zero-solve, damped-solve, held-solve, held-product, gradient, jx-norm, scaling, determined, non-singular}
+use Rattle.demands.specs.Calls.{StoreOutcome, performStore, zero-solve, damped-solve, held-solve, held-product, gradient, above, jx-norm, scaling, determined, non-singular}
 use Rattle.demands.specs.History.{Call, base, search, perform, isSolve}
 use Rattle.demands.specs.Eight.{zeroX}
 use Rattle.demands.specs.Refusals.{storeTests, testsOf}
@@ -69,6 +69,7 @@ isEmptying (base (damped-solve diag out)) = false
 isEmptying (base (held-solve rhs out)) = false
 isEmptying (base (held-product out)) = false
 isEmptying (base (gradient bnorm)) = false
+isEmptying (base (above bnorm limit)) = false
 isEmptying (base (jx-norm x)) = false
 isEmptying (base (scaling md diag x bound)) = false
 isEmptying (base determined) = false
@@ -103,6 +104,7 @@ call-empties (base (damped-solve diag out)) i st order s h = absurd (true≢fals
 call-empties (base (held-solve rhs out)) i st order s h = absurd (true≢false (sym i))
 call-empties (base (held-product out)) i st order s h = absurd (true≢false (sym i))
 call-empties (base (gradient bnorm)) i st order s h = absurd (true≢false (sym i))
+call-empties (base (above bnorm limit)) i st order s h = absurd (true≢false (sym i))
 call-empties (base (jx-norm x)) i st order s h = absurd (true≢false (sym i))
 call-empties (base (scaling md diag x bound)) i st order s h = absurd (true≢false (sym i))
 call-empties (base determined) i st order s h = absurd (true≢false (sym i))
@@ -144,6 +146,7 @@ module _ (st : State) (x r y : Room) (fits : cols st ≤ st .n) (z : Shaped (col
   back-to (base (held-solve rhs out)) p q = back-rests (q refl)
   back-to (base (held-product out)) p q = back-rests (q refl)
   back-to (base (gradient bnorm)) p q = back-rests (q refl)
+  back-to (base (above bnorm limit)) p q = back-rests (q refl)
   back-to (base (jx-norm v)) p q = back-rests (q refl)
   back-to (base (scaling md diag v bound)) p q = back-rests (q refl)
   back-to (base determined) p q = back-rests (q refl)

@@ -30,7 +30,7 @@ use Rattle.calls.specs.declared.state.State.{State}
 use Rattle.calls.specs.State.{marksIn, cols, withoutFrozen}
 use Rattle.calls.specs.Outcome.{narrowedIn}
 use Rattle.calls.specs.Search.{markedSearch}
-use Rattle.demands.specs.Calls.{replyNumber, zero-solve, damped-solve, held-solve, held-product, gradient, jx-norm, scaling, determined, non-singular}
+use Rattle.demands.specs.Calls.{replyNumber, zero-solve, damped-solve, held-solve, held-product, gradient, above, jx-norm, scaling, determined, non-singular}
 use Rattle.demands.specs.History.{Call, base, search, AnyAnswer, of-base, found, perform, isSolve}
 use Rattle.demands.specs.Marked.{MarkedOutcome, performMarked, refusalMarked, reducedCall, reducedOutcome, answers, answeredOut, readBack}
 use Rattle.demands.proofs.MarkedForms.{marked-cases}
@@ -81,6 +81,7 @@ refusal-answers (base (damped-solve diag out)) k st s = refl
 refusal-answers (base (held-solve rhs out)) k st s = refl
 refusal-answers (base (held-product out)) k st s = refl
 refusal-answers (base (gradient bnorm)) k st s = refl
+refusal-answers (base (above bnorm limit)) k st s = refl
 refusal-answers (base (jx-norm x)) k st s = refl
 refusal-answers (base (scaling md diag x bound)) k st s = refl
 refusal-answers (base determined) k st s = refl
@@ -105,6 +106,7 @@ solved-zero (base (damped-solve diag out)) i st x k h = step-zero st x out k h
 solved-zero (base (held-solve rhs out)) i st x k h = absurd (true≢false (sym i))
 solved-zero (base (held-product out)) i st x k h = absurd (true≢false (sym i))
 solved-zero (base (gradient bnorm)) i st x k h = absurd (true≢false (sym i))
+solved-zero (base (above bnorm limit)) i st x k h = absurd (true≢false (sym i))
 solved-zero (base (jx-norm y)) i st x k h = absurd (true≢false (sym i))
 solved-zero (base (scaling md diag y bound)) i st x k h = absurd (true≢false (sym i))
 solved-zero (base determined) i st x k h = absurd (true≢false (sym i))

@@ -26,7 +26,7 @@ use Rattle.calls.specs.declared.state.State.{State}
 use Rattle.calls.specs.State.{markedHeld, marked, cols, whole, withoutFrozen}
 use Rattle.calls.specs.Tests.{freeTest}
 use Rattle.calls.specs.Outcome.{narrowedIn}
-use Rattle.demands.specs.Calls.{zero-solve, damped-solve, held-solve, held-product, gradient, jx-norm, scaling, determined, non-singular}
+use Rattle.demands.specs.Calls.{zero-solve, damped-solve, held-solve, held-product, gradient, above, jx-norm, scaling, determined, non-singular}
 use Rattle.demands.specs.History.{Call, base, search, AnyAnswer, numberOf, Outcome, perform}
 use Rattle.demands.specs.Refusals.{testsOf, refusal}
 use Rattle.demands.specs.Eight.{storeBreaks, Breaks, Stands}
@@ -72,6 +72,7 @@ further-other (base (damped-solve diag out)) st order = refl
 further-other (base (held-solve rhs out)) st order = refl
 further-other (base (held-product out)) st order = refl
 further-other (base (gradient bnorm)) st order = refl
+further-other (base (above bnorm limit)) st order = refl
 further-other (base (jx-norm x)) st order = refl
 further-other (base (scaling mode.FirstScaled diag x bound)) st order = refl
 further-other (base (scaling mode.FirstUnscaled diag x bound)) st order = refl

@@ -61,6 +61,9 @@ use Rattle.calls.proofs.cholesky.mul_read.Kinds as mul-read-kinds
 use Rattle.calls.proofs.measure.max_a_t_b_scaled.{signature as max-a-t-b-scaled-signature}
 use Rattle.calls.proofs.measure.max_a_t_b_scaled.Reads as max-a-t-b-scaled
 use Rattle.calls.proofs.measure.max_a_t_b_scaled.Kinds as max-a-t-b-scaled-kinds
+use Rattle.calls.proofs.above.above_limit.{signature as above-limit-signature}
+use Rattle.calls.proofs.above.above_limit.Reads as above-limit
+use Rattle.calls.proofs.above.above_limit.Kinds as above-limit-kinds
 use Rattle.calls.proofs.measure.a_x_norm.{signature as a-x-norm-signature}
 use Rattle.calls.proofs.measure.a_x_norm.Reads as a-x-norm
 use Rattle.calls.proofs.measure.a_x_norm.Kinds as a-x-norm-kinds
@@ -170,11 +173,16 @@ pub reader-mul-plain-is : (κs : Lfts 2) (a : ArgsD reader-mul-plain-signature �
 unfolding performMarked
 reader-mul-plain-is κs a r s order p = ap shownBy p
 
--- ---- gradient, norm of Jx, scaling, determined, rank
+-- ---- gradient, the question beside it, norm of Jx, scaling, determined, rank
 pub calls-max-a-t-b-scaled-is : (κs : Lfts 2) (a : ArgsD max-a-t-b-scaled-signature κs) (r : GradientTold) (s : AtExit (endedOf 2 max-a-t-b-scaled-kinds.ps max-a-t-b-scaled-kinds.r) κs) → max-a-t-b-scaled.Post κs a r s
     → outcomeOf (of-base (basic.number (gradientOf (r .answer)))) (r .state) (now (s .1 .0)) [] ≡ performMarked (base (basic.gradient (a .1 .1 .1 .0))) (a .0) (now (a .1 .1 .0)) (now (a .1 .0))
 unfolding performMarked
 calls-max-a-t-b-scaled-is κs a r s p = ap (λ (e : calls.MarkedTold Float). ofMarkedTold (λ r. of-base (basic.number r)) e) p
+
+pub calls-above-limit-is : (κs : Lfts 2) (a : ArgsD above-limit-signature κs) (r : TruthTold) (s : AtExit (endedOf 2 above-limit-kinds.ps above-limit-kinds.r) κs) → above-limit.Post κs a r s
+    → outcomeOf (of-base (basic.truth (truthOf (r .answer)))) (r .state) (now (s .1 .0)) [] ≡ performMarked (base (basic.above (a .1 .1 .1 .0) (a .1 .1 .1 .1 .0))) (a .0) (now (a .1 .1 .0)) (now (a .1 .0))
+unfolding performMarked
+calls-above-limit-is κs a r s p = ap (λ (e : calls.MarkedTold Bool). ofMarkedTold (λ r. of-base (basic.truth r)) e) p
 
 pub calls-a-x-norm-is : (κs : Lfts 3) (a : ArgsD a-x-norm-signature κs) (r : MeasuredTold) (s : AtExit (endedOf 3 a-x-norm-kinds.ps a-x-norm-kinds.r) κs) → a-x-norm.Post κs a r s
     → outcomeOf (of-base (basic.ranged (measuredOf (r .answer)))) (r .state) (now (s .1 .0)) [] ≡ performMarked (base (basic.jx-norm (now (a .1 .1 .1 .0)))) (a .0) (now (a .1 .1 .0)) (now (a .1 .0))

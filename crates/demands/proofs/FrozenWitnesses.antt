@@ -1,5 +1,5 @@
--- Calls with marks, computed by the definitions that the contracts cite: one row of two columns of which the first is frozen, both frozen, a mark past n.
--- Assumes nothing.
+-- Calls with marks, computed by the definitions that the contracts cite: one row of two columns of which the first is frozen, both frozen, a mark past n;
+-- and the question of 02, #105, with one column frozen of two. Assumes nothing.
 use Prim.Native.Nat.{ℕ}
 use mathlib.Core.Path.{_≡_, refl}
 use mathlib.Core.Bool.{true, false}
@@ -13,7 +13,7 @@ use Rattle.factor.specs.declared.state.Held.the-variants as held
 use Rattle.calls.specs.declared.state.State.{State}
 use Rattle.calls.specs.State.{noProblem}
 use Rattle.calls.specs.Factoring.{MarkedFactored, markedFactoring}
-use Rattle.demands.specs.Calls.{zero-solve, damped-solve, held-product, done}
+use Rattle.demands.specs.Calls.{zero-solve, damped-solve, held-product, above, done, truth}
 use Rattle.demands.specs.History.{Call, base, search, of-base}
 use Rattle.demands.specs.Marked.{MarkedOutcome, performMarked}
 use Rattle.demands.specs.inner.Opened.{openedMarked}
@@ -67,3 +67,25 @@ product = performMarked (base (held-product (junk 2))) (damped .state) (row 3276
 pub one-held : (damped .state ≡ record { m = 1; n = 2; held = held.Damped; marks = 32768 }) × (product .answer ≡ of-base (done (answered tt))) × (product .out ≡ round binary64 true 30 1 ∷ plusZero ∷ [])
 unfolding openedMarked
 one-held = (refl, refl, refl)
+
+-- J = 1, r = (3, 4), residual norm 5: the columns measure 0.6 and 0.8, so that under the limit 0.75 the question is answered by the second, where it is free
+abbrev square : ℕ → MarkedFactored
+square marks = markedFactoring 2 2 marks (w 1 ∷ plusZero ∷ plusZero ∷ w 1 ∷ []) (w 3 ∷ w 4 ∷ []) (junk 12) (7 ∷ 7 ∷ []) (junk 6)
+
+abbrev asks : ℕ → MarkedOutcome
+asks marks = performMarked (base (above (w 5) (round binary64 false 3 4))) (square marks .state) (square marks .order) (square marks .store)
+
+pub one-asked :
+    (asks 32768 .answer ≡ of-base (truth (answered true)))
+    × (asks 16384 .answer ≡ of-base (truth (answered false)))
+    × (asks 0 .answer ≡ of-base (truth (answered true)))
+unfolding openedMarked
+one-asked = (refl, refl, refl)
+
+-- both frozen: 7 for a limit below zero, then 9
+abbrev asksBelow : Float → MarkedOutcome
+asksBelow limit = performMarked (base (above (w 5) limit)) frozen-all (0 ∷ 1 ∷ []) (row 32768 .store)
+
+pub asked-nine : (asksBelow (round binary64 true 1 1) .answer ≡ of-base (truth (refused 7))) × (asksBelow plusZero .answer ≡ of-base (truth (refused 9)))
+unfolding openedMarked
+asked-nine = (refl, refl)

@@ -12,7 +12,7 @@ use Rattle.factor.specs.State.{isEmpty, withHeld}
 use Rattle.factor.specs.Room.{Room, part, load, leaving}
 use Rattle.leaves.specs.Square.{zeros}
 use Rattle.leaves.specs.Tests.{firstOf}
-use Rattle.demands.specs.Calls.{OutcomeOf, StoreOutcome, StoreCall, zero-solve, damped-solve, held-solve, held-product, gradient, jx-norm, scaling, determined, non-singular, performStore, isStoreSolve}
+use Rattle.demands.specs.Calls.{OutcomeOf, StoreOutcome, StoreCall, zero-solve, damped-solve, held-solve, held-product, gradient, above, jx-norm, scaling, determined, non-singular, performStore, isStoreSolve}
 use Rattle.factor.specs.declared.state.Held.{Held}
 use Rattle.factor.specs.declared.state.State.{State}
 use Rattle.factor.proofs.Layouts.{load-shaped}
@@ -178,6 +178,7 @@ solve-apart (damped-solve diag out) h = refl
 solve-apart (held-solve rhs out) h = absurd (true≢false (sym h))
 solve-apart (held-product out) h = absurd (true≢false (sym h))
 solve-apart (gradient bnorm) h = absurd (true≢false (sym h))
+solve-apart (above bnorm limit) h = absurd (true≢false (sym h))
 solve-apart (jx-norm x) h = absurd (true≢false (sym h))
 solve-apart (scaling md diag x bound) h = absurd (true≢false (sym h))
 solve-apart determined h = absurd (true≢false (sym h))
@@ -191,6 +192,7 @@ module _ (st : State) (h : Held) (order : List ℕ) where
   shortest-fresh (held-solve rhs out) a = absurd (true≢false (sym a))
   shortest-fresh (held-product out) a = absurd (true≢false (sym a))
   shortest-fresh (gradient bnorm) a = absurd (true≢false (sym a))
+  shortest-fresh (above bnorm limit) a = absurd (true≢false (sym a))
   shortest-fresh (jx-norm x) a = absurd (true≢false (sym a))
   shortest-fresh (scaling md diag x bound) a = absurd (true≢false (sym a))
   shortest-fresh determined a = absurd (true≢false (sym a))
@@ -203,6 +205,7 @@ module _ (st : State) (h : Held) (order : List ℕ) where
   further-fresh (held-solve rhs out) a = absurd (true≢false (sym a))
   further-fresh (held-product out) a = absurd (true≢false (sym a))
   further-fresh (gradient bnorm) a = absurd (true≢false (sym a))
+  further-fresh (above bnorm limit) a = absurd (true≢false (sym a))
   further-fresh (jx-norm x) a = absurd (true≢false (sym a))
   further-fresh (scaling md diag x bound) a = absurd (true≢false (sym a))
   further-fresh determined a = absurd (true≢false (sym a))
@@ -215,6 +218,7 @@ module _ (st : State) (h : Held) (order : List ℕ) where
   effect-fresh (held-solve rhs out) a r = absurd (true≢false (sym a))
   effect-fresh (held-product out) a r = absurd (true≢false (sym a))
   effect-fresh (gradient bnorm) a r = absurd (true≢false (sym a))
+  effect-fresh (above bnorm limit) a r = absurd (true≢false (sym a))
   effect-fresh (jx-norm x) a r = absurd (true≢false (sym a))
   effect-fresh (scaling md diag x bound) a r = absurd (true≢false (sym a))
   effect-fresh determined a r = absurd (true≢false (sym a))

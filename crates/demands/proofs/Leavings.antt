@@ -12,7 +12,7 @@ use Rattle.factor.specs.Room.{Room, load, leaving}
 use Rattle.factor.specs.Tests.{roomTests}
 use Rattle.leaves.specs.Tests.{allFinite}
 use Rattle.eliminate.specs.Eliminate.{heads, tails}
-use Rattle.demands.specs.Calls.{StoreOutcome, StoreCall, zero-solve, damped-solve, held-solve, held-product, gradient, jx-norm, scaling, determined, non-singular, performStore}
+use Rattle.demands.specs.Calls.{StoreOutcome, StoreCall, zero-solve, damped-solve, held-solve, held-product, gradient, above, jx-norm, scaling, determined, non-singular, performStore}
 use Rattle.factor.specs.declared.state.State.{State}
 use Rattle.measures.specs.declared.scaling.Mode.the-variants as mode
 use Rattle.leaves.proofs.Refusals.{numbered, passed-iff, none-of-both}
@@ -34,6 +34,7 @@ further-numbered (damped-solve diag out) st order = refl
 further-numbered (held-solve rhs out) st order = refl
 further-numbered (held-product out) st order = refl
 further-numbered (gradient bnorm) st order = refl
+further-numbered (above bnorm limit) st order = refl
 further-numbered (jx-norm x) st order = refl
 further-numbered (scaling mode.FirstScaled diag x bound) st order = refl
 further-numbered (scaling mode.FirstUnscaled diag x bound) st order = refl
@@ -100,6 +101,7 @@ module _ (st : State) (order : List ℕ) (r : Room) (z : Shaped (st .n) r) where
   effect-shaped (held-solve rhs out) = either Left _ _ _ (rested-shaped (st .n) r z) (rested-shaped (st .n) r z)
   effect-shaped (held-product out) = either Left _ _ _ (rested-shaped (st .n) r z) (rested-shaped (st .n) r z)
   effect-shaped (gradient bnorm) = rested-shaped (st .n) r z
+  effect-shaped (above bnorm limit) = rested-shaped (st .n) r z
   effect-shaped (jx-norm x) = rested-shaped (st .n) r z
   effect-shaped (scaling md diag x bound) = rested-shaped (st .n) r z
   effect-shaped determined = rested-shaped (st .n) r z

@@ -31,6 +31,8 @@ pub mod MarkedForms
 pub mod ReducedTests
 pub mod FrozenTable
 pub mod FrozenSteps
+pub mod AboveLaws
+pub mod FrozenAbove
 pub mod FrozenRooms
 pub mod FrozenKeeping
 pub mod FrozenLaws
@@ -44,3 +46,4 @@ pub mod FrozenAsFresh
 pub mod FrozenFresh
 pub mod FrozenWitnesses
 pub mod FrozenDemands
+pub mod AboveDemands

@@ -31,11 +31,11 @@ use Rattle.calls.specs.Outcome.{narrowedIn, stepOut, heldOut, markedEnded, mark
 use Rattle.calls.specs.Factoring.{markedFactoring, factoredAs}
 use Rattle.calls.specs.Solves.{markedZero, markedDamped}
 use Rattle.calls.specs.HeldCalls.{markedSolve, markedMul}
-use Rattle.calls.specs.Measures.{markedGradient, markedJx, markedDetermined, markedNonSingular}
+use Rattle.calls.specs.Measures.{markedGradient, markedAbove, markedJx, markedDetermined, markedNonSingular}
 use Rattle.calls.specs.Rescale.{scalingOut, scaledBy, markedScaling}
 use Rattle.calls.specs.Search.{markedSearch}
 use Rattle.calls.proofs.Passed.{by-no-mark, by-refusal, by-working}
-use Rattle.demands.specs.Calls.{performStore, zero-solve, damped-solve, held-solve, held-product, gradient, jx-norm, scaling, determined, non-singular, done, number, ranged, count, truth, scaled}
+use Rattle.demands.specs.Calls.{performStore, zero-solve, damped-solve, held-solve, held-product, gradient, above, jx-norm, scaling, determined, non-singular, done, number, ranged, count, truth, scaled}
 use Rattle.demands.specs.History.{Call, base, search, of-base, found, Outcome, perform, settling}
 use Rattle.demands.specs.Marked.{MarkedOutcome, outcomeOf, ofMarkedEnded, ofMarkedTold, performMarked, testsMarked, withMarks, refusalMarked, reducedCall, reducedOutcome, isAnswer, answeredOut, outBack, storeBack, readBack}
 use Rattle.demands.proofs.Laws.{laws}
@@ -74,7 +74,7 @@ module _ (st : State) (order : List ℕ) (s : List Float) where
   -- LAW
   pub marked-is : (c : Call)
       → performMarked c st order s ≡ callBy (st .marks) (testsMarked c st order s) (withMarks (st .marks) (perform c (whole st) order s)) (readBack c st s (left c)) (λ k. refusalMarked c k st s)
-  unfolding performMarked testsMarked perform performStore reducedCall storeBack answeredOut markedZero markedDamped markedSolve markedMul markedGradient markedJx markedDetermined markedNonSingular markedScaling markedSearch
+  unfolding performMarked testsMarked perform performStore reducedCall storeBack answeredOut markedZero markedDamped markedSolve markedMul markedGradient markedAbove markedJx markedDetermined markedNonSingular markedScaling markedSearch
   marked-is (base (zero-solve out)) =
       let c = base (zero-solve out) in
       let e = solves.zeroCall (withoutFrozen st) (take (cols st) order) (narrowedIn st s) (zeros (cols st)) in
@@ -100,6 +100,11 @@ module _ (st : State) (order : List ℕ) (s : List Float) where
       let e = measure.gradientCall (withoutFrozen st) (take (cols st) order) bnorm (narrowedIn st s) in
       by-marks (ofMarkedTold (λ r. of-base (number r))) (st .marks) _ (toldAs st (measure.gradientCall (whole st) order bnorm s)) (restedBy st s e) (λ k. markedTold (refused k) st s) _ _ _ refl
       (as-told c _ _ (sym (holds-on c refl)) (by-reply (λ (r : Reply Float). []) (e .reply) (λ a. refl) (λ k. refl))) (λ k. refl)
+  marked-is (base (above bnorm limit)) =
+      let c = base (above bnorm limit) in
+      let e = measure.aboveCall (withoutFrozen st) (take (cols st) order) bnorm limit (narrowedIn st s) in
+      by-marks (ofMarkedTold (λ r. of-base (truth r))) (st .marks) _ (toldAs st (measure.aboveCall (whole st) order bnorm limit s)) (restedBy st s e) (λ k. markedTold (refused k) st s) _ _ _ refl
+      (as-told c _ _ (sym (holds-on c refl)) (by-reply (λ (r : Reply Bool). []) (e .reply) (λ a. refl) (λ k. refl))) (λ k. refl)
   marked-is (base (jx-norm x)) =
       let c = base (jx-norm x) in
       let e = measure.jxCall (withoutFrozen st) (take (cols st) order) (freeOf (marksIn st) x) (narrowedIn st s) in

@@ -14,12 +14,12 @@ use Rattle.factor.specs.Solve.{scatter, gather, nonSingular}
 use Rattle.measures.specs.Determined.{determinedOf}
 use Rattle.eliminate.specs.Eliminate.{Rows, heads, tails}
 use Rattle.factor.specs.Held.{heldSolved, heldProduct}
-use Rattle.measures.specs.Gradient.{gradient as measure, jxNorm, jxRanges}
+use Rattle.measures.specs.Gradient.{gradient as measure, aboveLimit, jxNorm, jxRanges}
 use Rattle.factor.specs.Outcome.{written}
 use Rattle.factor.specs.Solves.{dampedNumbers}
 use Rattle.measures.specs.Measures.{finiteOr8}
 use Rattle.measures.specs.Rescale.{rescaled}
-use Rattle.demands.specs.Calls.{number, ranged, count, truth, scaled, StoreCall, zero-solve, damped-solve, held-solve, held-product, gradient, jx-norm, scaling, determined, non-singular, isStoreSolve}
+use Rattle.demands.specs.Calls.{number, ranged, count, truth, scaled, StoreCall, zero-solve, damped-solve, held-solve, held-product, gradient, above, jx-norm, scaling, determined, non-singular, isStoreSolve}
 use Rattle.factor.specs.declared.state.Held.{Held}
 use Rattle.factor.specs.declared.state.Held.the-variants as held
 use Rattle.factor.specs.declared.state.State.{State}
@@ -103,6 +103,10 @@ module _ (st : State) (order : List ℕ) (r t : Room) (a : Alike r t) where
       let e : measure (gather (take (st .n) order) (r .norms)) bnorm (r .upper) (r .qtb) ≡ measure (gather (take (st .n) order) (t .norms)) bnorm (t .upper) (t .qtb) =
       rw (a .norms, a .upper, a .qtb) in
       record { answer = ap (λ (x : Reply Float). number x) e; held = refl; out = refl }
+  effect-reads (above bnorm limit) h =
+      let e : aboveLimit (gather (take (st .n) order) (r .norms)) bnorm limit (r .upper) (r .qtb) ≡ aboveLimit (gather (take (st .n) order) (t .norms)) bnorm limit (t .upper) (t .qtb) =
+      rw (a .norms, a .upper, a .qtb) in
+      record { answer = ap (λ (x : Reply Bool). truth x) e; held = refl; out = refl }
   effect-reads (jx-norm x) h =
       let xs = gather (take (st .n) order) x in
       record { answer = ap (λ (u : List (List Float)). ranged (finiteOr8 (jxNorm xs u) (jxRanges xs u))) (a .upper); held = refl; out = refl }
@@ -139,6 +143,7 @@ module _ (st : State) (order : List ℕ) (r t : Room) (a : Alike r t) where
     effect-settles (held-solve rhs out) h = absurd (true≢false (sym h))
     effect-settles (held-product out) h = absurd (true≢false (sym h))
     effect-settles (gradient bnorm) h = absurd (true≢false (sym h))
+    effect-settles (above bnorm limit) h = absurd (true≢false (sym h))
     effect-settles (jx-norm x) h = absurd (true≢false (sym h))
     effect-settles (scaling md diag x bound) h = absurd (true≢false (sym h))
     effect-settles determined h = absurd (true≢false (sym h))
@@ -152,6 +157,7 @@ effect-rests st order r (damped-solve diag out) h = absurd (true≢false h)
 effect-rests st order r (held-solve rhs out) h = either (Rests st r) _ _ _ (record { held = refl; below = refl; ldiag = refl }) (record { held = refl; below = refl; ldiag = refl })
 effect-rests st order r (held-product out) h = either (Rests st r) _ _ _ (record { held = refl; below = refl; ldiag = refl }) (record { held = refl; below = refl; ldiag = refl })
 effect-rests st order r (gradient bnorm) h = record { held = refl; below = refl; ldiag = refl }
+effect-rests st order r (above bnorm limit) h = record { held = refl; below = refl; ldiag = refl }
 effect-rests st order r (jx-norm x) h = record { held = refl; below = refl; ldiag = refl }
 effect-rests st order r (scaling md diag x bound) h = record { held = refl; below = refl; ldiag = refl }
 effect-rests st order r determined h = record { held = refl; below = refl; ldiag = refl }

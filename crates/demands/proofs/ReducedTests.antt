@@ -28,7 +28,7 @@ use Rattle.calls.specs.Tests.{continues, isOrder, markedRoomTests, formTest, fr
 use Rattle.calls.specs.Outcome.{narrowedIn}
 use Rattle.calls.specs.Rescale.{markedScalingTests}
 use Rattle.calls.proofs.Passed.{Ready, none-ready}
-use Rattle.demands.specs.Calls.{zero-solve, damped-solve, held-solve, held-product, gradient, jx-norm, scaling, determined, non-singular}
+use Rattle.demands.specs.Calls.{zero-solve, damped-solve, held-solve, held-product, gradient, above, jx-norm, scaling, determined, non-singular}
 use Rattle.demands.specs.History.{Call, base, search}
 use Rattle.demands.specs.Refusals.{shortestOf, furtherOf, testsOf}
 use Rattle.demands.specs.Marked.{testsMarked, reducedCall}
@@ -47,6 +47,7 @@ furtherBy (base (damped-solve diag out)) st order = formTest st order ∷ finite
 furtherBy (base (held-solve rhs out)) st order = formTest st order ∷ heldTest (whole st) ∷ finiteTest (whole st) rhs ∷ []
 furtherBy (base (held-product out)) st order = heldTest (whole st) ∷ []
 furtherBy (base (gradient bnorm)) st order = formTest st order ∷ finiteNumber bnorm ∷ (notAbove bnorm, 7) ∷ []
+furtherBy (base (above bnorm limit)) st order = formTest st order ∷ finiteNumber bnorm ∷ finiteNumber limit ∷ (notAbove bnorm, 7) ∷ (below limit, 7) ∷ []
 furtherBy (base (jx-norm x)) st order = formTest st order ∷ finiteTest (whole st) x ∷ []
 furtherBy (base (scaling mode.FirstScaled diag x bound)) st order = finiteTest (whole st) x ∷ finiteNumber bound ∷ (notAbove bound, 7) ∷ []
 furtherBy (base (scaling mode.FirstUnscaled diag x bound)) st order = finiteTest (whole st) x ∷ finiteNumber bound ∷ (notAbove bound, 7) ∷ []
@@ -65,6 +66,7 @@ tests-split (base (damped-solve diag out)) st order s = refl
 tests-split (base (held-solve rhs out)) st order s = refl
 tests-split (base (held-product out)) st order s = refl
 tests-split (base (gradient bnorm)) st order s = refl
+tests-split (base (above bnorm limit)) st order s = refl
 tests-split (base (jx-norm x)) st order s = refl
 tests-split (base (scaling mode.FirstScaled diag x bound)) st order s = refl
 tests-split (base (scaling mode.FirstUnscaled diag x bound)) st order s = refl
@@ -81,6 +83,7 @@ further-numbered (base (damped-solve diag out)) st order = refl
 further-numbered (base (held-solve rhs out)) st order = refl
 further-numbered (base (held-product out)) st order = refl
 further-numbered (base (gradient bnorm)) st order = refl
+further-numbered (base (above bnorm limit)) st order = refl
 further-numbered (base (jx-norm x)) st order = refl
 further-numbered (base (scaling mode.FirstScaled diag x bound)) st order = refl
 further-numbered (base (scaling mode.FirstUnscaled diag x bound)) st order = refl
@@ -199,6 +202,11 @@ module _ (st : State) (order : List ℕ) (s : List Float) where
       let z = zeros-long st s k r in
       room-and st s k r (length (zeros (cols st))) (omega arith) w
   passes (base (gradient bnorm)) r w =
+      let k = length order in
+      let l = r .each-long in
+      let o = taken-long st s k r order (omega arith) in
+      room-and st s k r (length (take (cols st) order)) (omega arith) (ordered st s k r order (w .0), w .1)
+  passes (base (above bnorm limit)) r w =
       let k = length order in
       let l = r .each-long in
       let o = taken-long st s k r order (omega arith) in

@@ -10,7 +10,7 @@ use lib.Ieee.{Float}
 use borrow.Author.Tests.{ltb-true, ltb-false, lt-ltb, le-ltb}
 use Rattle.factor.specs.Room.{Room, load}
 use Rattle.leaves.specs.Tests.{Test, firstOf}
-use Rattle.demands.specs.Calls.{StoreOutcome, StoreCall, zero-solve, damped-solve, held-solve, held-product, gradient, jx-norm, scaling, determined, non-singular, performStore}
+use Rattle.demands.specs.Calls.{StoreOutcome, StoreCall, zero-solve, damped-solve, held-solve, held-product, gradient, above, jx-norm, scaling, determined, non-singular, performStore}
 use Rattle.factor.specs.declared.state.State.{State}
 use Rattle.measures.specs.declared.scaling.Mode.the-variants as mode
 use Rattle.demands.proofs.Effects.{Effect, effect, effected, testedOf, perform-is}
@@ -32,6 +32,7 @@ module _ (st : State) (o p : List ℕ) (lo : st .n ≤ length o) (lp : st .n ≤
   shortest-same (held-solve rhs out) = least-same (st .n) (length o) (length p) (min (length rhs) (length out)) lo lp
   shortest-same (held-product out) = refl
   shortest-same (gradient bnorm) = le-ltb (length o) (st .n) lo ∙ sym (le-ltb (length p) (st .n) lp)
+  shortest-same (above bnorm limit) = le-ltb (length o) (st .n) lo ∙ sym (le-ltb (length p) (st .n) lp)
   shortest-same (jx-norm x) = least-same (st .n) (length o) (length p) (length x) lo lp
   shortest-same (scaling mode.FirstScaled diag x bound) = refl
   shortest-same (scaling mode.FirstUnscaled diag x bound) = refl
@@ -47,6 +48,7 @@ module _ (st : State) (o p : List ℕ) (lo : st .n ≤ length o) (lp : st .n ≤
   further-same (held-solve rhs out) = rw same
   further-same (held-product out) = refl
   further-same (gradient bnorm) = rw same
+  further-same (above bnorm limit) = rw same
   further-same (jx-norm x) = rw same
   further-same (scaling mode.FirstScaled diag x bound) = refl
   further-same (scaling mode.FirstUnscaled diag x bound) = refl
@@ -62,6 +64,7 @@ module _ (st : State) (o p : List ℕ) (lo : st .n ≤ length o) (lp : st .n ≤
   effect-same (held-solve rhs out) r = rw same
   effect-same (held-product out) r = refl
   effect-same (gradient bnorm) r = rw same
+  effect-same (above bnorm limit) r = rw same
   effect-same (jx-norm x) r = rw same
   effect-same (scaling md diag x bound) r = refl
   effect-same determined r = refl

@@ -9,7 +9,7 @@ use Prim.Native.Nat.{ℕ, _<_}
 use native.Mathlib.Omega.{arith}
 use lib.Dec.{eqb, ltb}
 use lib.ListN.{length, take}
-use lib.Ieee.{Float, isNan}
+use lib.Ieee.{Float, lt, isNan}
 use borrow.Author.Tests.{eqb-true, eqb-false}
 use Rattle.leaves.specs.declared.norm.Ranges.{Ranges}
 use Rattle.leaves.specs.Reply.{Reply, answered, refused}
@@ -21,12 +21,12 @@ use Rattle.leaves.specs.Tests.{outside, Test, allFinite}
 use Rattle.factor.specs.Room.{Room, load}
 use Rattle.factor.specs.Solve.{gather}
 use Rattle.factor.specs.Held.{heldSolved, heldProduct}
-use Rattle.measures.specs.Gradient.{gradient as measure, largest, jxNorm}
+use Rattle.measures.specs.Gradient.{gradient as measure, largest, above as asked, aboveLimit, jxNorm}
 use Rattle.measures.specs.Scaling.{firstScaling, laterScaling, startBy, usable}
 use Rattle.factor.specs.Solves.{dampedNumbers}
 use Rattle.measures.specs.Measures.{finiteOr8}
 use Rattle.measures.specs.Rescale.{Scaled, orRefused, rescaled}
-use Rattle.demands.specs.Calls.{replyNumber, storeNumber, StoreOutcome, StoreCall, zero-solve, damped-solve, held-solve, held-product, gradient, jx-norm, scaling, determined, non-singular, performStore, run}
+use Rattle.demands.specs.Calls.{replyNumber, storeNumber, StoreOutcome, StoreCall, zero-solve, damped-solve, held-solve, held-product, gradient, above, jx-norm, scaling, determined, non-singular, performStore, run}
 use Rattle.factor.specs.declared.state.State.{State}
 use Rattle.measures.specs.declared.scaling.Mode.the-variants as mode
 use Rattle.leaves.proofs.Refusals.{refused-iff, passed-iff}
@@ -34,7 +34,7 @@ use Rattle.demands.proofs.Effects.{Effect, effect, finiteOr, testedOf}
 use Rattle.demands.proofs.Leavings.{tests-numbered, passed-is, refused-is}
 use Rattle.leaves.specs.Refusing.{NoneHold, RefusedBy}
 use Rattle.demands.specs.Refusals.{storeRefusal, refusedAs, shortestOf, furtherOf, storeTests}
-use Rattle.demands.specs.Eight.{zeroX, dampedL, topOf, anyNan, columnMeasures, storeBreaks}
+use Rattle.demands.specs.Eight.{zeroX, dampedL, topOf, anyNan, beforeYes, columnMeasures, storeBreaks}
 use Rattle.demands.proofs.TestNumbers.{small, first-small}
 
 -- ---- 8, call by call
@@ -73,17 +73,31 @@ largest-number top (x ∷ xs) = by (largest-number (maxOf top x) xs) (isNan x)
     by e true = refl
     by e false = e
 
+-- 02, #105: of the measures before the first yes, one is not finite
+above-number : (limit : Float) (xs : List Float) → replyNumber (asked limit xs) ≡ eightIf (not (allFinite (beforeYes limit xs)))
+unfolding asked allFinite
+above-number limit [] = refl
+above-number limit (x ∷ xs) = by (above-number limit xs) (isFinite x) (lt limit x) refl
+  where
+    by : replyNumber (asked limit xs) ≡ eightIf (not (allFinite (beforeYes limit xs))) → (b c : Bool) → isFinite x ≡ b
+        → (let g : Reply Bool = elim b [ true ↦ cond c (answered true) (asked limit xs) | false ↦ refused 8 ] in
+        replyNumber g ≡ eightIf (not (allFinite (cond (b && c) [] (x ∷ beforeYes limit xs)))))
+    by e true true q = refl
+    by e true false q = rw q e
+    by e false c q = rw q
+
 rescaled-number : (ok : Bool) (a : Scaled) (new old : List Float) → replyNumber (orRefused ok a new old .0) ≡ eightIf (not ok)
 rescaled-number true a new old = refl
 rescaled-number false a new old = refl
 
 pub effect-number : (c : StoreCall) (st : State) (order : List ℕ) (r : Room) → storeNumber (effect c st order r .answer) ≡ eightIf (storeBreaks c st order r)
-unfolding effect storeBreaks measure rescaled
+unfolding effect storeBreaks measure aboveLimit rescaled
 effect-number (zero-solve out) st order r = finite-number (zeroX st r) _ _ refl refl
 effect-number (damped-solve diag out) st order r = finite-number (dampedNumbers (dampedL st order diag r)) _ _ refl refl
 effect-number (held-solve rhs out) st order r = finite-number (heldSolved (st .held) (gather (take (st .n) order) rhs) r) _ _ refl refl
 effect-number (held-product out) st order r = finite-number (heldProduct (st .held) r) _ _ refl refl
 effect-number (gradient bnorm) st order r = largest-number plusZero (columnMeasures st order bnorm r)
+effect-number (above bnorm limit) st order r = above-number limit (columnMeasures st order bnorm r)
 effect-number (jx-norm x) st order r = or8-number (jxNorm (gather (take (st .n) order) x) (r .upper)) _
 effect-number (scaling mode.FirstScaled diag x bound) st order r =
     let d = firstScaling (r .norms) in
@@ -102,6 +116,7 @@ further-small (damped-solve diag out) st order = refl
 further-small (held-solve rhs out) st order = refl
 further-small (held-product out) st order = refl
 further-small (gradient bnorm) st order = refl
+further-small (above bnorm limit) st order = refl
 further-small (jx-norm x) st order = refl
 further-small (scaling mode.FirstScaled diag x bound) st order = refl
 further-small (scaling mode.FirstUnscaled diag x bound) st order = refl
@@ -119,6 +134,7 @@ refused-number (damped-solve diag out) k = refl
 refused-number (held-solve rhs out) k = refl
 refused-number (held-product out) k = refl
 refused-number (gradient bnorm) k = refl
+refused-number (above bnorm limit) k = refl
 refused-number (jx-norm x) k = refl
 refused-number (scaling md diag x bound) k = refl
 refused-number determined k = refl

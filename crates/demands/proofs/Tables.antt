@@ -87,6 +87,7 @@ module _ (st : State) (order : List ℕ) (s : List Float) where
   effect-eight (basic.held-solve rhs out) h = either st s (heldSolved (st .held) (gather (take (st .n) order) rhs) room) _ _ _ refl refl h
   effect-eight (basic.held-product out) h = either st s (heldProduct (st .held) room) _ _ _ refl refl h
   effect-eight (basic.gradient bnorm) h = ap (λ (x : Reply Float). basic.storeOutcome (basic.number x) st (lay (rested room)) []) (by-eight _ h)
+  effect-eight (basic.above bnorm limit) h = ap (λ (x : Reply Bool). basic.storeOutcome (basic.truth x) st (lay (rested room)) []) (by-eight _ h)
   effect-eight (basic.jx-norm x) h = ap (λ (x : Reply (Float × Ranges)). basic.storeOutcome (basic.ranged x) st (lay (rested room)) []) (by-eight _ h)
   effect-eight (basic.scaling md diag x bound) h = scaled-left (rescaled md (st .n) (room .norms) diag x bound) diag (rescaled-eight md (st .n) (room .norms) diag x bound h)
   effect-eight basic.determined h = absurd (omega arith)

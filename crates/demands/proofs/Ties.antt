@@ -48,6 +48,9 @@ use Rattle.factor.proofs.cholesky.mul_read.Kinds as mul-read-kinds
 use Rattle.measures.proofs.measures.max_a_t_b_scaled.{signature as max-a-t-b-scaled-signature}
 use Rattle.measures.proofs.measures.max_a_t_b_scaled.Reads as max-a-t-b-scaled
 use Rattle.measures.proofs.measures.max_a_t_b_scaled.Kinds as max-a-t-b-scaled-kinds
+use Rattle.measures.proofs.above.above_limit.{signature as above-limit-signature}
+use Rattle.measures.proofs.above.above_limit.Reads as above-limit
+use Rattle.measures.proofs.above.above_limit.Kinds as above-limit-kinds
 use Rattle.measures.proofs.measures.a_x_norm.{signature as a-x-norm-signature}
 use Rattle.measures.proofs.measures.a_x_norm.Reads as a-x-norm
 use Rattle.measures.proofs.measures.a_x_norm.Kinds as a-x-norm-kinds
@@ -112,11 +115,16 @@ pub mul-read-is : (κs : Lfts 2) (a : ArgsD mul-read-signature κs) (r : Done) (
 unfolding perform basic.performStore
 mul-read-is κs a r s order p = ap shownBy p
 
--- ---- gradient, norm of Jx, scaling, determined, rank
+-- ---- gradient, the question beside it, norm of Jx, scaling, determined, rank
 pub max-a-t-b-scaled-is : (κs : Lfts 2) (a : ArgsD max-a-t-b-scaled-signature κs) (r : GradientTold) (s : AtExit (endedOf 2 max-a-t-b-scaled-kinds.ps max-a-t-b-scaled-kinds.r) κs) → max-a-t-b-scaled.Post κs a r s
     → leftAs (of-base (basic.number (gradientOf (r .answer)))) (r .state) (now (s .1 .0)) [] ≡ perform (base (basic.gradient (a .1 .1 .1 .0))) (a .0) (now (a .1 .1 .0)) (now (a .1 .0))
 unfolding perform basic.performStore
 max-a-t-b-scaled-is κs a r s p = ap (λ (e : calls.Told Float). ofBase (basic.ofTold basic.number e)) p
+
+pub above-limit-is : (κs : Lfts 2) (a : ArgsD above-limit-signature κs) (r : TruthTold) (s : AtExit (endedOf 2 above-limit-kinds.ps above-limit-kinds.r) κs) → above-limit.Post κs a r s
+    → leftAs (of-base (basic.truth (truthOf (r .answer)))) (r .state) (now (s .1 .0)) [] ≡ perform (base (basic.above (a .1 .1 .1 .0) (a .1 .1 .1 .1 .0))) (a .0) (now (a .1 .1 .0)) (now (a .1 .0))
+unfolding perform basic.performStore
+above-limit-is κs a r s p = ap (λ (e : calls.Told Bool). ofBase (basic.ofTold basic.truth e)) p
 
 pub a-x-norm-is : (κs : Lfts 3) (a : ArgsD a-x-norm-signature κs) (r : MeasuredTold) (s : AtExit (endedOf 3 a-x-norm-kinds.ps a-x-norm-kinds.r) κs) → a-x-norm.Post κs a r s
     → leftAs (of-base (basic.ranged (measuredOf (r .answer)))) (r .state) (now (s .1 .0)) [] ≡ perform (base (basic.jx-norm (now (a .1 .1 .1 .0)))) (a .0) (now (a .1 .1 .0)) (now (a .1 .0))

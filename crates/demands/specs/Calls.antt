@@ -10,7 +10,7 @@ use Rattle.leaves.specs.declared.norm.Ranges.{Ranges}
 use Rattle.factor.specs.Outcome.{Told, Ended}
 use Rattle.factor.specs.Solves.{zeroCall, dampedCall}
 use Rattle.factor.specs.HeldCalls.{solveCall, mulCall}
-use Rattle.measures.specs.Measures.{gradientCall, jxCall, determinedCall, nonSingularCall}
+use Rattle.measures.specs.Measures.{gradientCall, aboveCall, jxCall, determinedCall, nonSingularCall}
 use Rattle.measures.specs.Rescale.{Scaled, scalingCall}
 use Rattle.factor.specs.declared.state.State.{State}
 use Rattle.measures.specs.declared.scaling.Mode.{Mode}
@@ -57,6 +57,7 @@ pub data StoreCall : Type 0 where
   held-solve : (rhs out : List Float) → StoreCall
   held-product : (out : List Float) → StoreCall
   gradient : (bnorm : Float) → StoreCall
+  above : (bnorm limit : Float) → StoreCall
   jx-norm : (x : List Float) → StoreCall
   scaling : (md : Mode) (diag x : List Float) (bound : Float) → StoreCall
   determined : StoreCall
@@ -75,6 +76,7 @@ performStore (damped-solve diag out) st order s = ofEnded done (dampedCall st di
 performStore (held-solve rhs out) st order s = ofEnded done (solveCall st order rhs s out)
 performStore (held-product out) st order s = ofEnded done (mulCall st s out)
 performStore (gradient bnorm) st order s = ofTold number (gradientCall st order bnorm s)
+performStore (above bnorm limit) st order s = ofTold truth (aboveCall st order bnorm limit s)
 performStore (jx-norm x) st order s = ofTold ranged (jxCall st order x s)
 performStore (scaling md diag x bound) st order s = ofEnded scaled (scalingCall st md diag x bound s)
 performStore determined st order s = ofTold count (determinedCall st s)
@@ -87,6 +89,7 @@ isStoreSolve (damped-solve diag out) = true
 isStoreSolve (held-solve rhs out) = false
 isStoreSolve (held-product out) = false
 isStoreSolve (gradient bnorm) = false
+isStoreSolve (above bnorm limit) = false
 isStoreSolve (jx-norm x) = false
 isStoreSolve (scaling md diag x bound) = false
 isStoreSolve determined = false

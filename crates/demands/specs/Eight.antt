@@ -2,8 +2,8 @@
 use mathlib.Core.List.{List, [], _∷_}
 use Prim.Native.Nat.{ℕ}
 use lib.ListN.{take}
-use lib.Ieee.{Float, isNan}
-use mathlib.Core.Bool.{Bool, false, not, _&&_, _||_, true}
+use lib.Ieee.{Float, lt, isNan}
+use mathlib.Core.Bool.{Bool, false, not, cond, _&&_, _||_, true}
 use mathlib.Core.Path.{_≡_}
 use mathlib.Core.Logic.{inl, inr}
 use Rattle.factor.specs.Room.{Room, load, lay, emptied, rested}
@@ -18,7 +18,7 @@ use Rattle.factor.specs.Held.{heldSolved, heldProduct}
 use Rattle.measures.specs.Gradient.{measures, jxNorm}
 use Rattle.measures.specs.Scaling.{firstScaling, laterScaling, startBy, usable}
 use Rattle.factor.specs.Solves.{dampedNumbers}
-use Rattle.demands.specs.Calls.{StoreCall, zero-solve, damped-solve, held-solve, held-product, gradient, jx-norm, scaling, determined, non-singular, StoreOutcome, isStoreSolve, storeOutcome}
+use Rattle.demands.specs.Calls.{StoreCall, zero-solve, damped-solve, held-solve, held-product, gradient, above, jx-norm, scaling, determined, non-singular, StoreOutcome, isStoreSolve, storeOutcome}
 use Rattle.measures.specs.declared.scaling.Mode.the-variants as mode
 use Rattle.leaves.specs.Reply.{refused}
 use Rattle.factor.specs.State.{withHeld}
@@ -49,6 +49,11 @@ abbrev pub anyNan : List Float → Bool
 anyNan [] = false
 anyNan (x ∷ xs) = isNan x || anyNan xs
 
+-- 02, #105: the measures before the first finite one above the limit
+abbrev pub beforeYes : Float → List Float → List Float
+beforeYes limit [] = []
+beforeYes limit (x ∷ xs) = cond (isFinite x && lt limit x) [] (x ∷ beforeYes limit xs)
+
 abbrev pub columnMeasures : State → List ℕ → Float → Room → List Float
 columnMeasures st order bnorm r = measures (dividedBy bnorm (r .qtb)) (r .upper) (gather (take (st .n) order) (r .norms))
 
@@ -59,6 +64,7 @@ storeBreaks (damped-solve diag out) st order r = not (allFinite (dampedNumbers (
 storeBreaks (held-solve rhs out) st order r = not (allFinite (heldSolved (st .held) (gather (take (st .n) order) rhs) r))
 storeBreaks (held-product out) st order r = not (allFinite (heldProduct (st .held) r))
 storeBreaks (gradient bnorm) st order r = anyNan (columnMeasures st order bnorm r) || not (isFinite (topOf plusZero (columnMeasures st order bnorm r)))
+storeBreaks (above bnorm limit) st order r = not (allFinite (beforeYes limit (columnMeasures st order bnorm r)))
 storeBreaks (jx-norm x) st order r = not (isFinite (jxNorm (gather (take (st .n) order) x) (r .upper)))
 storeBreaks (scaling mode.FirstScaled diag x bound) st order r =
     let d = firstScaling (r .norms) in

@@ -8,5 +8,6 @@ pub mod Factorings
 pub mod Workings
 pub mod Alike
 pub mod Marked
+pub mod Above
 -- What only inner functions, laws and examples cite stands apart: nobody need believe it.
 pub mod inner

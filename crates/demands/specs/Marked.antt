@@ -21,10 +21,10 @@ use Rattle.calls.specs.Tests.{markedRoomTests, formTest, markedSolveTests, free
 use Rattle.calls.specs.Outcome.{MarkedTold, MarkedEnded, narrowedIn, restedStore, emptiedStore, widenedStore}
 use Rattle.calls.specs.Solves.{markedZero, markedDamped}
 use Rattle.calls.specs.HeldCalls.{markedSolve, markedMul}
-use Rattle.calls.specs.Measures.{markedGradient, markedJx, markedDetermined, markedNonSingular}
+use Rattle.calls.specs.Measures.{markedGradient, markedAboveTests, markedAbove, markedJx, markedDetermined, markedNonSingular}
 use Rattle.calls.specs.Rescale.{markedScalingTests, frozenEntries, markedScaling}
 use Rattle.calls.specs.Search.{markedSearchTests, markedSearch}
-use Rattle.demands.specs.Calls.{StoreAnswer, done, number, ranged, count, truth, scaled, zero-solve, damped-solve, held-solve, held-product, gradient, jx-norm, scaling, determined, non-singular}
+use Rattle.demands.specs.Calls.{StoreAnswer, done, number, ranged, count, truth, scaled, zero-solve, damped-solve, held-solve, held-product, gradient, above, jx-norm, scaling, determined, non-singular}
 use Rattle.demands.specs.History.{Call, base, search, AnyAnswer, of-base, found, numberOf, Outcome, perform, isSolve, leftAs}
 use Rattle.demands.specs.Refusals.{refusal, lentOut}
 
@@ -51,6 +51,7 @@ performMarked (base (damped-solve diag out)) st order s = ofMarkedEnded (λ r. o
 performMarked (base (held-solve rhs out)) st order s = ofMarkedEnded (λ r. of-base (done r)) (markedSolve st order rhs s out)
 performMarked (base (held-product out)) st order s = ofMarkedEnded (λ r. of-base (done r)) (markedMul st s out)
 performMarked (base (gradient bnorm)) st order s = ofMarkedTold (λ r. of-base (number r)) (markedGradient st order bnorm s)
+performMarked (base (above bnorm limit)) st order s = ofMarkedTold (λ r. of-base (truth r)) (markedAbove st order bnorm limit s)
 performMarked (base (jx-norm x)) st order s = ofMarkedTold (λ r. of-base (ranged r)) (markedJx st order x s)
 performMarked (base (scaling md diag x bound)) st order s = ofMarkedEnded (λ r. of-base (scaled r)) (markedScaling st md diag x bound s)
 performMarked (base determined) st order s = ofMarkedTold (λ r. of-base (count r)) (markedDetermined st s)
@@ -64,6 +65,7 @@ testsMarked (base (damped-solve diag out)) st order s = markedSolveTests st (len
 testsMarked (base (held-solve rhs out)) st order s = markedSolveTests st (length s) order (min (length rhs) (length out)) ++ (heldTest (whole st) ∷ finiteTest (whole st) rhs ∷ freeTest st ∷ [])
 testsMarked (base (held-product out)) st order s = markedRoomTests st (length s) (length out) ++ (heldTest (whole st) ∷ freeTest st ∷ [])
 testsMarked (base (gradient bnorm)) st order s = markedRoomTests st (length s) (length order) ++ (formTest st order ∷ finiteNumber bnorm ∷ (notAbove bnorm, 7) ∷ freeTest st ∷ [])
+testsMarked (base (above bnorm limit)) st order s = markedAboveTests st (length s) order bnorm limit
 testsMarked (base (jx-norm x)) st order s = markedSolveTests st (length s) order (length x) ++ (finiteTest (whole st) x ∷ freeTest st ∷ [])
 testsMarked (base (scaling md diag x bound)) st order s = markedScalingTests st md (length s) diag x bound
 testsMarked (base determined) st order s = markedRoomTests st (length s) (st .n) ++ (freeTest st ∷ [])
@@ -89,6 +91,7 @@ reducedCall st (base (damped-solve diag out)) = base (damped-solve (freeOf (mark
 reducedCall st (base (held-solve rhs out)) = base (held-solve (freeOf (marksIn st) rhs) (zeros (cols st)))
 reducedCall st (base (held-product out)) = base (held-product (zeros (cols st)))
 reducedCall st (base (gradient bnorm)) = base (gradient bnorm)
+reducedCall st (base (above bnorm limit)) = base (above bnorm limit)
 reducedCall st (base (jx-norm x)) = base (jx-norm (freeOf (marksIn st) x))
 reducedCall st (base (scaling md diag x bound)) = base (scaling md (freeOf (marksIn st) diag) (freeOf (marksIn st) x) bound)
 reducedCall st (base determined) = base determined
@@ -124,6 +127,7 @@ answeredOut (base (damped-solve diag out)) st x = written (merged (marksIn st) (
 answeredOut (base (held-solve rhs out)) st x = written (padded (st .n) x) out
 answeredOut (base (held-product out)) st x = written (padded (st .n) x) out
 answeredOut (base (gradient bnorm)) st x = []
+answeredOut (base (above bnorm limit)) st x = []
 answeredOut (base (jx-norm y)) st x = []
 answeredOut (base (scaling md diag y bound)) st x = merged (marksIn st) (frozenEntries md (st .n) diag) x
 answeredOut (base determined) st x = []
@@ -145,6 +149,7 @@ storeBack (base (damped-solve diag out)) st small s = widenedStore st small s
 storeBack (base (held-solve rhs out)) st small s = restedStore st s
 storeBack (base (held-product out)) st small s = restedStore st s
 storeBack (base (gradient bnorm)) st small s = restedStore st s
+storeBack (base (above bnorm limit)) st small s = restedStore st s
 storeBack (base (jx-norm x)) st small s = restedStore st s
 storeBack (base (scaling md diag x bound)) st small s = restedStore st s
 storeBack (base determined) st small s = restedStore st s

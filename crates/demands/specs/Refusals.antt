@@ -6,8 +6,8 @@ use lib.ListN.{length}
 use lib.Ieee.{Float}
 use Rattle.leaves.specs.Reply.{refused}
 use Rattle.leaves.specs.Tests.{Test}
-use Rattle.factor.specs.Tests.{roomTests, orderTest, heldTest, finiteTest, finiteNumber, notAbove}
-use Rattle.demands.specs.Calls.{StoreAnswer, done, number, ranged, count, truth, scaled, StoreOutcome, storeOutcome, StoreCall, zero-solve, damped-solve, held-solve, held-product, gradient, jx-norm, scaling, determined, non-singular}
+use Rattle.factor.specs.Tests.{roomTests, orderTest, heldTest, finiteTest, finiteNumber, notAbove, below}
+use Rattle.demands.specs.Calls.{StoreAnswer, done, number, ranged, count, truth, scaled, StoreOutcome, storeOutcome, StoreCall, zero-solve, damped-solve, held-solve, held-product, gradient, above, jx-norm, scaling, determined, non-singular}
 use Rattle.factor.specs.declared.state.State.{State}
 use Rattle.measures.specs.declared.scaling.Mode.the-variants as mode
 use Rattle.search.specs.Search.{searchTests}
@@ -21,6 +21,7 @@ shortestOf (damped-solve diag out) st order = min (length order) (min (length di
 shortestOf (held-solve rhs out) st order = min (length order) (min (length rhs) (length out))
 shortestOf (held-product out) st order = length out
 shortestOf (gradient bnorm) st order = length order
+shortestOf (above bnorm limit) st order = length order
 shortestOf (jx-norm x) st order = min (length order) (length x)
 shortestOf (scaling mode.FirstScaled diag x bound) st order = min (length diag) (length x)
 shortestOf (scaling mode.FirstUnscaled diag x bound) st order = min (length diag) (length x)
@@ -36,6 +37,7 @@ furtherOf (damped-solve diag out) st order = orderTest st order ∷ finiteTest s
 furtherOf (held-solve rhs out) st order = orderTest st order ∷ heldTest st ∷ finiteTest st rhs ∷ []
 furtherOf (held-product out) st order = heldTest st ∷ []
 furtherOf (gradient bnorm) st order = orderTest st order ∷ finiteNumber bnorm ∷ (notAbove bnorm, 7) ∷ []
+furtherOf (above bnorm limit) st order = orderTest st order ∷ finiteNumber bnorm ∷ finiteNumber limit ∷ (notAbove bnorm, 7) ∷ (below limit, 7) ∷ []
 furtherOf (jx-norm x) st order = orderTest st order ∷ finiteTest st x ∷ []
 furtherOf (scaling mode.FirstScaled diag x bound) st order = finiteTest st x ∷ finiteNumber bound ∷ (notAbove bound, 7) ∷ []
 furtherOf (scaling mode.FirstUnscaled diag x bound) st order = finiteTest st x ∷ finiteNumber bound ∷ (notAbove bound, 7) ∷ []
@@ -55,6 +57,7 @@ refusedAs (damped-solve diag out) k = done (refused k)
 refusedAs (held-solve rhs out) k = done (refused k)
 refusedAs (held-product out) k = done (refused k)
 refusedAs (gradient bnorm) k = number (refused k)
+refusedAs (above bnorm limit) k = truth (refused k)
 refusedAs (jx-norm x) k = ranged (refused k)
 refusedAs (scaling md diag x bound) k = scaled (refused k)
 refusedAs determined k = count (refused k)
@@ -66,6 +69,7 @@ lentOut (damped-solve diag out) = out
 lentOut (held-solve rhs out) = out
 lentOut (held-product out) = out
 lentOut (gradient bnorm) = []
+lentOut (above bnorm limit) = []
 lentOut (jx-norm x) = []
 lentOut (scaling md diag x bound) = diag
 lentOut determined = []

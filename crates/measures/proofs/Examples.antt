@@ -1,22 +1,22 @@
--- Document 01's commissioning examples I and J, what determined must tell apart (02, #104), and the flags of the norm of Jx and of the scaling
--- (02, #106), each computed by the definitions that the contracts cite. Assumes nothing.
-use Prim.Native.Nat.{ℕ, _+_, _*_, _^_}
+-- Document 01's commissioning examples I and J, what determined must tell apart (02, #104), the flags of the norm of Jx and of the scaling
+-- (02, #106), and what the question beside the gradient must tell apart (02, #105), each computed by the definitions that the contracts cite. Assumes nothing.
+use Prim.Native.Nat.{ℕ, _+_, _-_, _*_, _^_}
 use mathlib.Core.Path.{_≡_, refl}
-use mathlib.Core.Bool.{false, true}
+use mathlib.Core.Bool.{Bool, false, true}
 use mathlib.Core.List.{List, [], _∷_, _++_}
 use lib.ListN.{replicate}
 use lib.Ieee.{Float, nan, inf, binary64, round}
-use Rattle.leaves.specs.Reply.{Reply, answered}
+use Rattle.leaves.specs.Reply.{Reply, answered, refused}
 use Rattle.leaves.specs.Number.{plusZero}
 use Rattle.leaves.specs.Norm.{flags, neither}
 use Rattle.leaves.specs.declared.norm.Ranges.{Ranges}
 use Rattle.factor.specs.Factoring.{Factored, factorCall}
-use Rattle.factor.specs.Outcome.{Told}
+use Rattle.factor.specs.Outcome.{Told, told}
 use Rattle.factor.specs.declared.state.Held.the-variants.{Nothing}
 use Rattle.factor.specs.declared.state.State.{State}
 use Rattle.measures.specs.declared.scaling.Mode.{Mode}
 use Rattle.measures.specs.declared.scaling.Mode.the-variants as mode
-use Rattle.measures.specs.Measures.{gradientCall, jxCall, determinedCall}
+use Rattle.measures.specs.Measures.{gradientCall, aboveCall, jxCall, determinedCall}
 use Rattle.measures.specs.Rescale.{Scaled, first, later, scalingCall}
 use Rattle.measures.specs.inner.Opened.{opened}
 
@@ -109,3 +109,63 @@ pub flag-examples :
     × (scaled mode.LaterUnscaled ≡ answered (later neither))
 unfolding opened
 flag-examples = (refl, refl, refl, refl, refl, refl, refl, refl, refl)
+
+-- ---- 02, #105: is the gradient above the limit? I's is 1, and J's 0; I's with its norms in the order of the columns would be 4/3
+abbrev asked : Factored → Float → Float → Reply Bool
+asked f bnorm limit = aboveCall (f .state) (f .order) bnorm limit (f .store) .reply
+
+abbrev gradientAt : Factored → Float → Reply Float
+gradientAt f bnorm = gradientCall (f .state) (f .order) bnorm (f .store) .reply
+
+abbrev minus : ℕ → Float
+minus n = round binary64 true n 1
+
+pub above-examples :
+    (asked I (w 8) (w 1) ≡ answered false)
+    × (asked I (w 8) (fraction (2 ^ 53 - 1) 53) ≡ answered true)
+    × (asked J (w 1) (w 0) ≡ answered false)
+    × (asked I (w 8) (w 0) ≡ answered true)
+    × (asked I (w 8) (minus 0) ≡ answered true)
+    × (asked J (w 1) (minus 0) ≡ answered false)
+    × (asked I (w 8) nan ≡ refused 6)
+    × (asked I (w 8) (inf false) ≡ refused 6)
+    × (asked I (w 8) (minus 1) ≡ refused 7)
+    × (asked I (w 0) nan ≡ refused 6)
+    × (asked I (w 0) (w 1) ≡ refused 7)
+unfolding opened
+above-examples = (refl, refl, refl, refl, refl, refl, refl, refl, refl, refl, refl)
+
+-- J = diag(2, 1): at residual norm 1e-310 the measure of a residual of 1e-300 is 1e10, that of 1 infinite
+abbrev steep : Float → Float → Factored
+steep a b = factorCall 2 2 (w 2 ∷ w 0 ∷ w 0 ∷ w 1 ∷ []) (a ∷ b ∷ []) (junk 12) (7 ∷ 7 ∷ []) (junk 6)
+
+abbrev least : ℕ → Float
+least k = round binary64 false 1 (10 ^ k)
+
+pub steep-examples :
+    (asked (steep (least 300) (w 1)) (least 310) (w 1) ≡ answered true)
+    × (asked (steep (least 300) (w 1)) (least 310) (w (10 ^ 11)) ≡ refused 8)
+    × (gradientAt (steep (least 300) (w 1)) (least 310) ≡ refused 8)
+    × (asked (steep (w 1) (least 300)) (least 310) (w 1) ≡ refused 8)
+    × (asked (steep (w 1) (least 300)) (least 310) (w 0) ≡ refused 8)
+    × (asked (steep nan nan) (w 1) (w 0) ≡ refused 5)
+unfolding opened
+steep-examples = (refl, refl, refl, refl, refl, refl)
+
+-- a store that no factoring left: R = diag(5, 1), qt_b = (1, b), these norms, and NaN in work
+abbrev lent : Float → Float → List Float → List Float
+lent b s work = w 5 ∷ w 0 ∷ w 0 ∷ w 1 ∷ w 1 ∷ b ∷ s ∷ w 1 ∷ w 0 ∷ w 0 ∷ work
+
+abbrev askedIn : Float → Float → Float → Told Bool
+askedIn b s limit = aboveCall (opening 2 2) (0 ∷ 1 ∷ []) (w 1) limit (lent b s (nan ∷ nan ∷ []))
+
+-- the column of norm zero is skipped, whatever is in R; a NaN after a yes is not looked at, and before it ends the question; work is +0 after each
+pub lent-examples :
+    (askedIn (w 1) (w 0) (w 1) ≡ told (answered false) (opening 2 2) (lent (w 1) (w 0) (w 0 ∷ w 0 ∷ [])))
+    × (askedIn (w 2) (w 0) (w 1) ≡ told (answered true) (opening 2 2) (lent (w 2) (w 0) (w 0 ∷ w 0 ∷ [])))
+    × (askedIn nan (w 1) (w 1) ≡ told (answered true) (opening 2 2) (lent nan (w 1) (w 0 ∷ w 0 ∷ [])))
+    × (askedIn nan (w 1) (w 5) ≡ told (refused 8) (opening 2 2) (lent nan (w 1) (w 0 ∷ w 0 ∷ [])))
+    × (askedIn (w 2) nan (w 1) ≡ told (refused 8) (opening 2 2) (lent (w 2) nan (w 0 ∷ w 0 ∷ [])))
+    × (askedIn (w 1) (w 1) (minus 1) ≡ told (refused 7) (opening 2 2) (lent (w 1) (w 1) (nan ∷ nan ∷ [])))
+unfolding opened
+lent-examples = (refl, refl, refl, refl, refl, refl)

@@ -2,4 +2,6 @@
 pub mod Measured
 pub mod Answers
 pub mod OneMeasure
+pub mod Comparing
+pub mod Aboves
 pub mod Examples

@@ -13,23 +13,23 @@ use Rattle.leaves.specs.Number.{plusZero, isFinite}
 use Rattle.leaves.specs.Reply.{Reply, answered, refused}
 use Rattle.leaves.specs.Product.{dividedBy}
 use Rattle.leaves.specs.declared.norm.Ranges.{Ranges}
-use Rattle.measures.specs.Gradient.{measures, largest, gradient, jxNorm, jxRanges}
+use Rattle.measures.specs.Gradient.{measures, largest, gradient, above, aboveLimit, jxNorm, jxRanges}
 use Rattle.factor.specs.Room.{load, lay, rested}
 use Rattle.leaves.specs.Square.{uppersOf, diagonal}
 use Rattle.factor.specs.Solve.{gather, nonSingular}
 use Rattle.measures.specs.Determined.{determinedOf}
 use Rattle.measures.specs.inner.Counted.{countedOf}
 use Rattle.leaves.specs.Tests.{Test, firstOf}
-use Rattle.factor.specs.Tests.{roomTests, orderTest, finiteTest, finiteNumber, notAbove, solveTests}
+use Rattle.factor.specs.Tests.{roomTests, orderTest, finiteTest, finiteNumber, notAbove, below, solveTests}
 use Rattle.factor.specs.Outcome.{told}
-use Rattle.measures.specs.Measures.{finiteOr8, gradientCall, jxCall, determinedCall, nonSingularCall}
+use Rattle.measures.specs.Measures.{finiteOr8, gradientCall, aboveTests, aboveCall, jxCall, determinedCall, nonSingularCall}
 use Rattle.factor.specs.declared.state.State.{State}
 use Rattle.factor.proofs.Layouts.{square-upper}
 use Rattle.factor.specs.PivotOrder.{fullRank}
 use Rattle.factor.proofs.Copied.{tests-passed}
 use Rattle.factor.proofs.PivotOrders.{full-rank-passed}
 use Rattle.factor.proofs.Passed.{Ordered, room-passed, passed-sized, solve-passed, order-alone}
-use Rattle.leaves.proofs.Refusals.{call-refused, call-worked, earlier-passed}
+use Rattle.leaves.proofs.Refusals.{call-refused, call-worked, stopped, went-to, earlier-passed}
 use Rattle.leaves.proofs.Insides.{Inside}
 use Rattle.leaves.proofs.Squares.{diagonal-length}
 use Rattle.factor.specs.inner.Rooms.{Sized}
@@ -57,12 +57,12 @@ gradient-passed st store order bnorm e z =
     (ap firstOf (order-alone st store order) ∙ earlier-passed ts us refl refl (sym e ∙ z))
 
 -- the measure of the room that is lent
-pub gradient-law : (n : ℕ) (s : List Float) (order : List ℕ) (bnorm : Float) {b₀ b t : List Float} {r : Reply Float}
-    → b₀ ≡ load n s .qtb → b ≡ dividedBy bnorm b₀ → t ≡ load n s .norms
+pub gradient-law : (n : ℕ) (s : List Float) (order : List ℕ) (bnorm : Float) {b t : List Float} {r : Reply Float}
+    → b ≡ dividedBy bnorm (load n s .qtb) → t ≡ load n s .norms
     → r ≡ largest plusZero (measures b (uppersOf n (take (n * n) s)) (gather (take n order) t))
     → r ≡ gradient (gather (take n order) (load n s .norms)) bnorm (load n s .upper) (load n s .qtb)
 unfolding gradient
-gradient-law n s order bnorm e₀ e f h = h ∙ rw (e, e₀, f, square-upper n s)
+gradient-law n s order bnorm e f h = h ∙ rw (e, f, square-upper n s)
 
 module _ (st : State) (order : List ℕ) (bnorm : Float) (s : List Float) {c : ℕ} (e : c ≡ firstOf (gradientTests st (length s) order bnorm)) where
   pub gradient-refused : (c ≡ 0 → ⊥) → told (refused c) st s ≡ gradientCall st order bnorm s
@@ -74,6 +74,44 @@ module _ (st : State) (order : List ℕ) (bnorm : Float) (s : List Float) {c : �
       → s′ ≡ lay (rested (load (st .n) s)) → told r st s′ ≡ gradientCall st order bnorm s
   unfolding gradientCall
   gradient-worked z h l = rw (h, l) (call-worked _ (λ k. told (refused k) st s) _ (sym e ∙ z))
+
+-- ---- the question beside it (02, #105): its own tests, after the order list's
+abbrev pub limitTests : Float → Float → List Test
+limitTests bnorm limit = finiteNumber bnorm ∷ finiteNumber limit ∷ (notAbove bnorm, 7) ∷ (below limit, 7) ∷ []
+
+module _ (st : State) (store : ℕ) (order : List ℕ) (bnorm limit : Float) where
+  abbrev ordered : List Test
+  ordered = roomTests st store (length order) ++ (orderTest st order ∷ [])
+
+  pub above-stopped : {c : ℕ} → c ≡ firstOf (solveTests st store order (length order)) → (c ≡ 0 → ⊥) → c ≡ firstOf (aboveTests st store order bnorm limit)
+  above-stopped e h = sym (stopped ordered (limitTests bnorm limit) _ (gradient-first st store order e) h)
+
+  pub above-went : {c k : ℕ} → c ≡ firstOf (solveTests st store order (length order)) → c ≡ 0 → k ≡ firstOf (limitTests bnorm limit)
+      → k ≡ firstOf (aboveTests st store order bnorm limit)
+  above-went e z h = went-to ordered (limitTests bnorm limit) refl (gradient-first st store order e) z h
+
+  pub above-passed : {c : ℕ} → c ≡ firstOf (aboveTests st store order bnorm limit) → c ≡ 0 → Ordered st store order (length order)
+  above-passed e z =
+      solve-passed st store order (length order)
+      (ap firstOf (order-alone st store order) ∙ earlier-passed ordered (limitTests bnorm limit) refl refl (sym e ∙ z))
+
+pub above-law : (n : ℕ) (s : List Float) (order : List ℕ) (bnorm limit : Float) {b t : List Float} {r : Reply Bool}
+    → b ≡ dividedBy bnorm (load n s .qtb) → t ≡ load n s .norms
+    → r ≡ above limit (measures b (uppersOf n (take (n * n) s)) (gather (take n order) t))
+    → r ≡ aboveLimit (gather (take n order) (load n s .norms)) bnorm limit (load n s .upper) (load n s .qtb)
+unfolding aboveLimit
+above-law n s order bnorm limit e f h = h ∙ rw (e, f, square-upper n s)
+
+module _ (st : State) (order : List ℕ) (bnorm limit : Float) (s : List Float) {c : ℕ} (e : c ≡ firstOf (aboveTests st (length s) order bnorm limit)) where
+  pub above-refused : (c ≡ 0 → ⊥) → told (refused c) st s ≡ aboveCall st order bnorm limit s
+  unfolding aboveCall
+  above-refused h = call-refused _ (λ k. told (refused k) st s) _ c (sym e) (ne-eqb c 0 h)
+
+  pub above-worked : c ≡ 0 → {r : Reply Bool} {s′ : List Float}
+      → r ≡ aboveLimit (gather (take (st .n) order) (load (st .n) s .norms)) bnorm limit (load (st .n) s .upper) (load (st .n) s .qtb)
+      → s′ ≡ lay (rested (load (st .n) s)) → told r st s′ ≡ aboveCall st order bnorm limit s
+  unfolding aboveCall
+  above-worked z h l = rw (h, l) (call-worked _ (λ k. told (refused k) st s) _ (sym e ∙ z))
 
 -- ---- the norm of Jx
 abbrev pub jxTests : State → ℕ → List ℕ → List Float → List Test

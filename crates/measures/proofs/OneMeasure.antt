@@ -37,6 +37,9 @@ use Rattle.measures.proofs.measures.determined.Kinds as determined-kind
 use Rattle.measures.proofs.measures.is_non_singular.{signature as is-non-singular-signature}
 use Rattle.measures.proofs.measures.is_non_singular.Reads as is-non-singular
 use Rattle.measures.proofs.measures.is_non_singular.Kinds as is-non-singular-kinds
+use Rattle.measures.proofs.above.above_limit.{signature as above-limit-signature}
+use Rattle.measures.proofs.above.above_limit.Reads as above-limit
+use Rattle.measures.proofs.above.above_limit.Kinds as above-limit-kinds
 use Rattle.measures.proofs.update_diag.update_diag.{signature as update-diag-signature}
 use Rattle.measures.proofs.update_diag.update_diag.Reads as update-diag
 use Rattle.measures.proofs.update_diag.update_diag.Kinds as update-diag-kinds
@@ -78,6 +81,12 @@ truth-told {r = r} {t = t} e f =
 pub is-non-singular-one-outcome : (κs : Lfts 1) (a : ArgsD is-non-singular-signature κs) (r₁ r₂ : TruthTold) (s₁ s₂ : AtExit (endedOf 1 is-non-singular-kinds.ps is-non-singular-kinds.r) κs)
     → is-non-singular.Post κs a r₁ s₁ → is-non-singular.Post κs a r₂ s₂ → (r₁ ≡ r₂) × (now (s₁ .1 .0) ≡ now (s₂ .1 .0))
 is-non-singular-one-outcome κs a r₁ r₂ s₁ s₂ p q =
+    let e = p ∙ sym q in
+    (truth-told (truthOf-same (r₁ .answer) (r₂ .answer) (ap (λ (x : Told Bool). x .reply) e)) (ap (λ (x : Told Bool). x .state) e), ap (λ (x : Told Bool). x .store) e)
+
+pub above-limit-one-outcome : (κs : Lfts 2) (a : ArgsD above-limit-signature κs) (r₁ r₂ : TruthTold) (s₁ s₂ : AtExit (endedOf 2 above-limit-kinds.ps above-limit-kinds.r) κs)
+    → above-limit.Post κs a r₁ s₁ → above-limit.Post κs a r₂ s₂ → (r₁ ≡ r₂) × (now (s₁ .1 .0) ≡ now (s₂ .1 .0))
+above-limit-one-outcome κs a r₁ r₂ s₁ s₂ p q =
     let e = p ∙ sym q in
     (truth-told (truthOf-same (r₁ .answer) (r₂ .answer) (ap (λ (x : Told Bool). x .reply) e)) (ap (λ (x : Told Bool). x .state) e), ap (λ (x : Told Bool). x .store) e)
 

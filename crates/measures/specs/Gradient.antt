@@ -1,8 +1,8 @@
--- 01, module 6: the gradient's measure, and the norm of Jx.
-use mathlib.Core.Bool.{true, false, cond}
+-- 01, module 6: the gradient's measure, with the question of 02, #105, beside it, and the norm of Jx.
+use mathlib.Core.Bool.{Bool, true, false, cond}
 use mathlib.Core.List.{List, [], _∷_}
 use lib.ListN.{length, take}
-use lib.Ieee.{Float, binary64, div, eq, isNan}
+use lib.Ieee.{Float, binary64, div, eq, lt, isNan}
 use Rattle.leaves.specs.Reply.{Reply, answered, refused}
 use Rattle.leaves.specs.Number.{plusZero, absOf, maxOf, isFinite}
 use Rattle.leaves.specs.Vector.{dotOf, axpyAll}
@@ -26,6 +26,16 @@ largest top (x ∷ xs) = elim (isNan x) [ true ↦ refused 8 | false ↦ largest
 -- with the column norms in pivot order
 unfoldable pub gradient : List Float → Float → List (List Float) → List Float → Reply Float
 gradient ss bnorm upper qtb = largest plusZero (measures (dividedBy bnorm qtb) upper ss)
+
+-- 02, #105: whether a measure is above the limit. They are asked in pivot order: the first that is not finite ends it with 8, the first above the
+-- limit with yes, whatever comes after.
+unfoldable pub above : Float → List Float → Reply Bool
+above limit [] = answered false
+above limit (x ∷ xs) = elim (isFinite x) [ true ↦ cond (lt limit x) (answered true) (above limit xs) | false ↦ refused 8 ]
+
+-- of the same measures
+unfoldable pub aboveLimit : List Float → Float → Float → List (List Float) → List Float → Reply Bool
+aboveLimit ss bnorm limit upper qtb = above limit (measures (dividedBy bnorm qtb) upper ss)
 
 -- R's columns times the entries of x, in pivot order, added up
 unfoldable pub combined : List Float → List (List Float) → List Float → List Float

@@ -1,4 +1,4 @@
--- 01, module 6, 'Refusal numbers' and 'Lent room': gradient, norm of Jx, determined and the rank as their callers see them.
+-- 01, module 6, 'Refusal numbers' and 'Lent room': gradient, norm of Jx, determined and the rank as their callers see them; and 02, #105.
 use Prim.Native.Nat.{ℕ}
 use mathlib.Core.Bool.{Bool, true, false}
 use mathlib.Core.List.{List, [], _∷_, _++_}
@@ -7,12 +7,12 @@ use lib.ListN.{length, take}
 use lib.Ieee.{Float}
 use Rattle.leaves.specs.Reply.{Reply, answered, refused}
 use Rattle.leaves.specs.Number.{isFinite}
-use Rattle.leaves.specs.Tests.{firstOf}
+use Rattle.leaves.specs.Tests.{Test, firstOf}
 use Rattle.factor.specs.Room.{load, lay, rested}
-use Rattle.factor.specs.Tests.{roomTests, orderTest, finiteTest, finiteNumber, notAbove, solveTests}
+use Rattle.factor.specs.Tests.{roomTests, orderTest, finiteTest, finiteNumber, notAbove, below, solveTests}
 use Rattle.factor.specs.Solve.{gather, nonSingular}
 use Rattle.measures.specs.Determined.{determinedOf}
-use Rattle.measures.specs.Gradient.{gradient, jxNorm, jxRanges}
+use Rattle.measures.specs.Gradient.{gradient, aboveLimit, jxNorm, jxRanges}
 use Rattle.factor.specs.declared.state.State.{State}
 use Rattle.factor.specs.Outcome.{Told, told}
 use Rattle.leaves.specs.declared.norm.Ranges.{Ranges}
@@ -23,6 +23,21 @@ gradientCall st order bnorm store =
     let r = load (st .n) store in
     elim (eqb c 0) [
       | true ↦ told (gradient (gather (take (st .n) order) (r .norms)) bnorm (r .upper) (r .qtb)) st (lay (rested r))
+      | false ↦ told (refused c) st store
+    ]
+
+-- 02, #105: the gradient's tests, 6 also for the limit, and 7 also for a limit below zero
+abbrev pub aboveTests : State → ℕ → List ℕ → Float → Float → List Test
+aboveTests st store order bnorm limit =
+    roomTests st store (length order)
+    ++ (orderTest st order ∷ finiteNumber bnorm ∷ finiteNumber limit ∷ (notAbove bnorm, 7) ∷ (below limit, 7) ∷ [])
+
+unfoldable pub aboveCall : State → List ℕ → Float → Float → List Float → Told Bool
+aboveCall st order bnorm limit store =
+    let c = firstOf (aboveTests st (length store) order bnorm limit) in
+    let r = load (st .n) store in
+    elim (eqb c 0) [
+      | true ↦ told (aboveLimit (gather (take (st .n) order) (r .norms)) bnorm limit (r .upper) (r .qtb)) st (lay (rested r))
       | false ↦ told (refused c) st store
     ]
 

@@ -1,8 +1,11 @@
-// Document 01, module 6: the gradient's measure (`max_a_t_b_scaled`) and the norm of Jx (`a_x_norm`). Norms and x are read inside the loops
+// Document 01, module 6: the gradient's measure (`max_a_t_b_scaled`), with the question of 02, #105, and the norm of Jx (`a_x_norm`). Norms and x are read inside the loops
 // at the columns that the order list names, and not from a copy in pivot order.
 use crate::wrap::axpy_of;
 use crate::wrap::dot_of;
 use crate::wrap::norm_of;
+use factor::answer::Truth;
+use factor::parts::norms;
+use factor::parts::qt_b;
 use leaves::norm::Normed;
 use leaves::number::abs;
 use leaves::number::is_finite;
@@ -15,11 +18,14 @@ ghost use lib.ListN.{length, getD, take};
 ghost use lib.Ieee.{binary64, div};
 ghost use Rattle.leaves.specs.Number.{plusZero, absOf};
 ghost use Rattle.leaves.specs.Vector.{dotOf, axpyAll};
+ghost use Rattle.factor.specs.Answers.{truthOf};
+ghost use Rattle.factor.specs.Room.{load};
 ghost use Rattle.factor.specs.Solve.{gather};
+ghost use Rattle.factor.specs.inner.Rooms.{Sized};
 ghost use Rattle.measures.specs.Answers.{gradientOf};
 ghost use Rattle.leaves.specs.Square.{uppersOf};
 ghost use Rattle.leaves.specs.Product.{dividedBy};
-ghost use Rattle.measures.specs.Gradient.{measures, largest, combined, jxNorm, jxRanges};
+ghost use Rattle.measures.specs.Gradient.{measures, largest, above, combined, jxNorm, jxRanges};
 ghost use Rattle.leaves.specs.inner.Squares.{Square};
 
 // The Rust gives None for a NaN; here that is refusal 8, as is a measure that is not finite.
@@ -28,7 +34,7 @@ pub enum Gradient {
     Refused(u8),
 }
 
-pub(crate) fn divide_all(v: &mut [f64], d: f64)
+fn divide_all(v: &mut [f64], d: f64)
     ensures { λ _. ⌜ now (v .exit) ≡ dividedBy d (now (v .entry)) ⌝ }
 {
     let mut i = 0;
@@ -36,6 +42,18 @@ pub(crate) fn divide_all(v: &mut [f64], d: f64)
         v[i] = v[i] / d;
         i += 1;
     }
+}
+
+// What the measures are made of: qt_b over the residual norm goes to b, the column norms to s.
+pub(crate) fn fill_in(n: usize, store: &[f64], bnorm: f64, b: &mut [f64], s: &mut [f64])
+    requires { ⌜ (0 < n) × Sized n (now store) ⌝ }
+    requires { ⌜ (length (now b) ≡ n) × (length (now s) ≡ n) ⌝ }
+    ensures { λ _. ⌜ now (b .exit) ≡ dividedBy bnorm (load n (now (store .entry)) .qtb) ⌝ }
+    ensures { λ _. ⌜ now (s .exit) ≡ load n (now (store .entry)) .norms ⌝ }
+{
+    qt_b(n, store, b);
+    divide_all(b, bnorm);
+    norms(n, store, s);
 }
 
 // The measure of the column at place j, whose norm is s.
@@ -83,6 +101,39 @@ pub(crate) fn measure_of(
         return Gradient::Measure(top);
     }
     Gradient::Refused(8)
+}
+
+// The same measures, until one ends it: one that is not finite before one above the limit.
+pub(crate) fn above_of(
+    square: &[f64],
+    n: usize,
+    b: &[f64],
+    norms: &[f64],
+    order: &[usize],
+    limit: f64,
+) -> Truth
+    requires { ⌜ Square n (now square) ⌝ }
+    requires { ⌜ (length (now b) ≡ n) × (length (now norms) ≡ n) ⌝ }
+    requires { ⌜ n ≤ length (now order) ⌝ }
+    requires { ⌜ ((k : ℕ) → k < n → getD (now order) k 0 < n) ⌝ }
+    ensures { λ r. ⌜ truthOf r ≡ above limit (measures (now (b .entry)) (uppersOf n (now (square .entry))) (gather (take n (now (order .entry))) (now (norms .entry)))) ⌝ }
+{
+    let mut j = 0usize;
+    while j < n {
+        let column = order[j];
+        let s = norms[column];
+        if s != 0.0 {
+            let x = measure(square, n, j, b, s);
+            if !is_finite(x) {
+                return Truth::Refused(8);
+            }
+            if limit < x {
+                return Truth::Is(true);
+            }
+        }
+        j += 1;
+    }
+    Truth::Is(false)
 }
 
 // Column i of R times x, onto the first i + 1 of w.

@@ -1,15 +1,13 @@
 // Document 01, module 6: the gradient, the norm of Jx, determined, and whether A has rank n, each with all its tests.
 // After a call that passed its checks work is +0, and nothing else of the store is changed. The last two take no order list: no test 4.
 use crate::gradient::Gradient;
-use crate::gradient::divide_all;
+use crate::gradient::fill_in;
 use crate::gradient::jx_norm;
 use crate::gradient::measure_of;
 use factor::answer::Truth;
 use factor::check::ordered;
 use factor::check::room;
 use factor::parts::diagonal;
-use factor::parts::norms;
-use factor::parts::qt_b;
 use factor::parts::rest;
 use factor::pivot_order::full_rank;
 use factor::state::State;
@@ -77,7 +75,7 @@ fn check_gradient(st: State, store: usize, order: &[usize], bnorm: f64) -> u8
     0
 }
 
-// qt_b goes to b, the norms to s.
+// qt_b over the residual norm goes to b, the norms to s.
 fn gradient_in(
     n: usize,
     store: &mut [f64],
@@ -93,9 +91,7 @@ fn gradient_in(
     ensures { λ r. ⌜ gradientOf r ≡ gradient (gather (take n (now (order .entry))) (load n (now (store .entry)) .norms)) bnorm (load n (now (store .entry)) .upper) (load n (now (store .entry)) .qtb) ⌝ }
     ensures { λ _. ⌜ now (store .exit) ≡ lay (rested (load n (now (store .entry)))) ⌝ }
 {
-    qt_b(n, store, b);
-    divide_all(b, bnorm);
-    norms(n, store, s);
+    fill_in(n, store, bnorm, b, s);
     let nn = n * n;
     let answer = measure_of(&store[..nn], n, b, s, order);
     rest(n, store);

@@ -8,10 +8,10 @@ use Rattle.calls.specs.Outcome.{widened}
 use Rattle.calls.specs.Factoring.{markedFactoring}
 use Rattle.calls.specs.Solves.{markedZero, markedDamped}
 use Rattle.calls.specs.HeldCalls.{markedSolve, markedMul}
-use Rattle.calls.specs.Measures.{markedGradient, markedJx, markedDetermined, markedNonSingular}
+use Rattle.calls.specs.Measures.{markedGradient, markedAbove, markedJx, markedDetermined, markedNonSingular}
 use Rattle.calls.specs.Rescale.{markedScalingTests, frozenEntries, markedScaling}
 use Rattle.calls.specs.Search.{markedSearch}
 
 unfoldable pub opened : Unit {0}
-unfolding measures search marksOf markPast freeCount freeOf merged freeColumns runs narrowed spread spreadOut continues widened markedFactoring markedZero markedDamped markedSolve markedMul markedGradient markedJx markedDetermined markedNonSingular markedScalingTests frozenEntries markedScaling markedSearch
+unfolding measures search marksOf markPast freeCount freeOf merged freeColumns runs narrowed spread spreadOut continues widened markedFactoring markedZero markedDamped markedSolve markedMul markedGradient markedAbove markedJx markedDetermined markedNonSingular markedScalingTests frozenEntries markedScaling markedSearch
 opened = tt

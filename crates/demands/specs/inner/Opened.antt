@@ -5,7 +5,7 @@ use Rattle.measures.specs.inner.Opened.{opened as measures}
 use Rattle.search.specs.inner.Opened.{opened as search}
 use Rattle.calls.specs.Factoring.{markedFactoring}
 use Rattle.calls.specs.HeldCalls.{markedSolve, markedMul}
-use Rattle.calls.specs.Measures.{markedGradient, markedJx, markedDetermined, markedNonSingular}
+use Rattle.calls.specs.Measures.{markedGradient, markedAbove, markedJx, markedDetermined, markedNonSingular}
 use Rattle.calls.specs.Outcome.{widened}
 use Rattle.calls.specs.Rescale.{markedScalingTests, frozenEntries, markedScaling}
 use Rattle.calls.specs.Search.{markedSearch}
@@ -21,5 +21,5 @@ opened = tt
 
 -- and with those of the calls with marks
 unfoldable pub openedMarked : Unit {0}
-unfolding opened marksOf markPast freeCount freeOf merged freeColumns runs narrowed spread spreadOut markedFactoring markedSolve markedMul markedGradient markedJx markedDetermined markedNonSingular widened markedScalingTests frozenEntries markedScaling markedSearch markedZero markedDamped continues performMarked testsMarked reducedCall answeredOut storeBack performUnder reducedRun
+unfolding opened marksOf markPast freeCount freeOf merged freeColumns runs narrowed spread spreadOut markedFactoring markedSolve markedMul markedGradient markedAbove markedJx markedDetermined markedNonSingular widened markedScalingTests frozenEntries markedScaling markedSearch markedZero markedDamped continues performMarked testsMarked reducedCall answeredOut storeBack performUnder reducedRun
 openedMarked = tt

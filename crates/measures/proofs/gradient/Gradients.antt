@@ -7,7 +7,7 @@ use native.Mathlib.Numerals.{add-one}
 use native.Mathlib.Omega.{arith}
 use lib.ListN.{length, getD, take, drop, replicate, drop-of-length-le}
 use lib.Seq.{drop-cons, getD-take, length-take-le}
-use lib.Ieee.{Float, nan, binary64, add, mul, div, eq, ne}
+use lib.Ieee.{Float, nan, binary64, add, mul, div, eq, ne, lt}
 use borrow.Author.Tests.{not-true, not-false}
 use Rattle.leaves.specs.Reply.{answered, refused}
 use Rattle.leaves.specs.Number.{plusZero, absOf, maxOf, isFinite}
@@ -21,7 +21,7 @@ use Rattle.leaves.specs.Square.{uppersOf, zeros}
 use Rattle.leaves.specs.Product.{dividedBy}
 use Rattle.factor.specs.Solve.{gather}
 use Rattle.factor.proofs.Solves.{gather-at, gather-length}
-use Rattle.measures.specs.Gradient.{measures, largest, combined, jxNorm, jxRanges}
+use Rattle.measures.specs.Gradient.{measures, largest, above, combined, jxNorm, jxRanges}
 use Rattle.leaves.proofs.Squares.{upper-at, upper-long, uppersOf-length}
 use Rattle.leaves.specs.inner.Squares.{Square}
 
@@ -84,7 +84,7 @@ largest-nan : (top x : Float) (xs : List Float) → ne x x ≡ true → refused 
 unfolding largest
 largest-nan top x xs h = rw (sym (is-nan x) ∙ h, largest)
 
-largest-more : (top x : Float) (xs : List Float) → ne x x ≡ false → largest (maxOf top x) xs ≡ largest top (x ∷ xs)
+pub largest-more : (top x : Float) (xs : List Float) → ne x x ≡ false → largest (maxOf top x) xs ≡ largest top (x ∷ xs)
 unfolding largest
 largest-more top x xs h = rw (sym (is-nan x) ∙ h, largest)
 
@@ -96,8 +96,21 @@ pub largest-not : (top : Float) → isFinite top ≡ false → refused 8 ≡ lar
 unfolding largest
 largest-not top h = rw (h, largest)
 
--- ---- a turn of the gradient's loop, by its tests; v is the column's norm
-module _ (b : List Float) (n : ℕ) (s : List Float) (order : List ℕ) (norms : List Float) (q : Square n s) (j : ℕ) (h : j < n) (l : n ≤ length order) (top : Float) where
+-- the question, by its tests (02, #105)
+pub above-not : (limit x : Float) (xs : List Float) → isFinite x ≡ false → refused 8 ≡ above limit (x ∷ xs)
+unfolding above
+above-not limit x xs h = rw (h, above)
+
+pub above-is : (limit x : Float) (xs : List Float) → isFinite x ≡ true → lt limit x ≡ true → answered true ≡ above limit (x ∷ xs)
+unfolding above
+above-is limit x xs h k = rw (h, k, above)
+
+pub above-on : (limit x : Float) (xs : List Float) → isFinite x ≡ true → lt limit x ≡ false → above limit xs ≡ above limit (x ∷ xs)
+unfolding above
+above-on limit x xs h k = rw (h, k, above)
+
+-- ---- a turn of the gradient's loop and of the question's, by their tests; v is the column's norm
+module _ (b : List Float) (n : ℕ) (s : List Float) (order : List ℕ) (norms : List Float) (q : Square n s) (j : ℕ) (h : j < n) (l : n ≤ length order) where
   abbrev ss : List Float
   ss = gather (take n order) norms
 
@@ -118,18 +131,38 @@ module _ (b : List Float) (n : ℕ) (s : List Float) (order : List ℕ) (norms :
       measures-more b n s ss q j h gathered (ap (λ (x : Float). eq x plusZero) (sym here) ∙ ne-true _ _ t)
       ∙ ap (λ (x : Float). measured b (uppersOf n s) j x ∷ from (j + 1)) (sym here)
 
-  pub gradient-skip : ne v plusZero ≡ false → largest top (from (j + 1)) ≡ largest top (from j)
-  gradient-skip t = ap (largest top) (measures-skip b n s ss q j h gathered (ap (λ (x : Float). eq x plusZero) (sym here) ∙ ne-false _ _ t))
+  skipped : ne v plusZero ≡ false → from (j + 1) ≡ from j
+  skipped t = measures-skip b n s ss q j h gathered (ap (λ (x : Float). eq x plusZero) (sym here) ∙ ne-false _ _ t)
 
-  pub gradient-nan : (x : Float) → ne v plusZero ≡ true → x ≡ measured b (uppersOf n s) j v → ne x x ≡ true → refused 8 ≡ largest top (from j)
-  gradient-nan x t e r = rw (more t, ← e) (largest-nan top x _ r)
+  pub gradient-skip : (top : Float) → ne v plusZero ≡ false → largest top (from (j + 1)) ≡ largest top (from j)
+  gradient-skip top t = ap (largest top) (skipped t)
 
-  pub gradient-more : (x : Float) → ne v plusZero ≡ true → x ≡ measured b (uppersOf n s) j v → ne x x ≡ false → largest (maxOf top x) (from (j + 1)) ≡ largest top (from j)
-  gradient-more x t e r = rw (more t, ← e) (largest-more top x _ r)
+  pub gradient-nan : (top x : Float) → ne v plusZero ≡ true → x ≡ measured b (uppersOf n s) j v → ne x x ≡ true → refused 8 ≡ largest top (from j)
+  gradient-nan top x t e r = rw (more t, ← e) (largest-nan top x _ r)
+
+  pub gradient-more : (top x : Float) → ne v plusZero ≡ true → x ≡ measured b (uppersOf n s) j v → ne x x ≡ false → largest (maxOf top x) (from (j + 1)) ≡ largest top (from j)
+  gradient-more top x t e r = rw (more t, ← e) (largest-more top x _ r)
+
+  pub above-skip : (limit : Float) → ne v plusZero ≡ false → above limit (from (j + 1)) ≡ above limit (from j)
+  above-skip limit t = ap (above limit) (skipped t)
+
+  pub above-eight : (limit x : Float) → ne v plusZero ≡ true → x ≡ measured b (uppersOf n s) j v → isFinite x ≡ false → refused 8 ≡ above limit (from j)
+  above-eight limit x t e r = rw (more t, ← e) (above-not limit x _ r)
+
+  pub above-yes : (limit x : Float) → ne v plusZero ≡ true → x ≡ measured b (uppersOf n s) j v → isFinite x ≡ true → lt limit x ≡ true → answered true ≡ above limit (from j)
+  above-yes limit x t e r k = rw (more t, ← e) (above-is limit x _ r k)
+
+  pub above-more : (limit x : Float) → ne v plusZero ≡ true → x ≡ measured b (uppersOf n s) j v → isFinite x ≡ true → lt limit x ≡ false
+      → above limit (from (j + 1)) ≡ above limit (from j)
+  above-more limit x t e r k = rw (more t, ← e) (above-on limit x _ r k)
 
 pub measures-end : (b : List Float) (n : ℕ) (s ss : List Float) (j : ℕ) → n ≤ j → measures b (drop j (uppersOf n s)) (drop j ss) ≡ []
 unfolding measures
 measures-end b n s ss j h = let l = uppersOf-length n s in rw (drop-of-length-le (uppersOf n s) {i = j} (omega arith))
+
+pub above-none : (limit : Float) → answered false ≡ above limit []
+unfolding above
+above-none limit = refl
 
 -- ---- the norm of Jx
 pub axpy-front : (a : Float) (xs ys : List Float) → axpyAll a xs (take (length xs) ys) ++ drop (length xs) ys ≡ axpyAll a xs ys
