@@ -71,6 +71,17 @@ pub(crate) fn gradient(s: &[u8], st: State, store: &mut [f64], order: &[usize]) 
     reply::of_gradient(calls::measure::max_a_t_b_scaled(st, store, order, bnorm))
 }
 
+pub(crate) fn above(s: &[u8], st: State, store: &mut [f64], order: &[usize]) -> After {
+    let x = word(s, 2);
+    let y = word(s, x.next);
+    if !y.good {
+        return unplayed(false, st);
+    }
+    let bnorm = of_bits(x.value);
+    let limit = of_bits(y.value);
+    reply::of_truth(calls::above::above_limit(st, store, order, bnorm, limit))
+}
+
 // The calls that one vector is lent to. The radius and lambda are the search's, which alone reads them.
 fn on_vector(
     op: u8,

@@ -102,6 +102,7 @@ pub(crate) fn play(
         b'Z' => told(solve_with_zero_diagonal(st, store, order, out)),
         b'M' => beside::mul(st, store, out),
         b'G' => call::gradient(s, st, store, order),
+        b'A' => call::above(s, st, store, order),
         b'D' | b'S' | b'N' | b'L' => call::with_vector(s, op, st, store, order, out),
         b'U' => rescale::scale(s, st, store),
         b'P' => of_place(determined(st, store)),

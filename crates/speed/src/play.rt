@@ -2,7 +2,9 @@
 use crate::make::fill;
 use crate::room;
 use calls::state::State;
+use factor::answer::Truth;
 use lines::part::doubles_within;
+use measures::gradient::Gradient;
 use search::trust_region::Found;
 use std::num::wrapping_add_usize;
 use std::num::wrapping_sub_usize;
@@ -90,6 +92,36 @@ fn seek(
     }
 }
 
+fn measure_of(r: Gradient) -> f64 {
+    match r {
+        Gradient::Measure(x) => x,
+        Gradient::Refused(_) => 0.0,
+    }
+}
+
+fn one_if(yes: bool) -> f64 {
+    if yes { 1.0 } else { 0.0 }
+}
+
+fn truth_of(r: Truth) -> f64 {
+    match r {
+        Truth::Is(yes) => one_if(yes),
+        Truth::Refused(_) => 0.0,
+    }
+}
+
+// The gradient; or whether it is above zero, which is 1 for yes. A refusal is 0.
+fn asked(mode: usize, st: State, store: &mut [f64], order: &[usize]) -> f64 {
+    if mode == 5 {
+        let g = calls::measure::max_a_t_b_scaled(st, store, order, 1.0);
+        let measure = g.answer;
+        return measure_of(measure);
+    }
+    let t = calls::above::above_limit(st, store, order, 1.0, 0.0);
+    let answer = t.answer;
+    truth_of(answer)
+}
+
 // What comes after the factoring.
 fn further(
     mode: usize,
@@ -101,6 +133,9 @@ fn further(
 ) -> f64 {
     if mode == 1 {
         return 0.0;
+    }
+    if 4 < mode {
+        return asked(mode, st, store, order);
     }
     scale(st.n, store, diag);
     if mode == 4 {

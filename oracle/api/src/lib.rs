@@ -165,6 +165,16 @@ pub trait Engine {
         order: &[usize],
         b_norm: f64,
     ) -> (Result<f64, u8>, State);
+    /// Whether the gradient is above a limit (02, #105): the columns are asked in pivot order, and the first whose measure
+    /// is above the limit, or not finite, ends it.
+    fn above_limit(
+        &self,
+        state: State,
+        store: &mut [f64],
+        order: &[usize],
+        b_norm: f64,
+        limit: f64,
+    ) -> (Result<bool, u8>, State);
     fn a_x_norm(
         &self,
         state: State,

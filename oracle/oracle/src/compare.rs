@@ -1,5 +1,6 @@
 //! Both workings on the same cases, every answer, state and room bit for bit.
 
+use crate::above::as_the_gradient;
 use crate::cases::{self, Kind};
 use crate::coverage::Coverage;
 use crate::engines::{PLAIN, SHOWN};
@@ -18,6 +19,9 @@ use api::{Run, Trial};
 pub struct Tally {
     pub compared: u64,
     pub calls: u64,
+    /// Questions held against the answered gradient of the same working, by either, and those not as it says (02, #105).
+    pub questions: u64,
+    pub against: u64,
     pub differ: u64,
 }
 
@@ -82,21 +86,31 @@ fn first_difference(items: &[Item], tally: &mut Tally, coverage: &mut Coverage) 
             a.asked(item).and_then(|s| s.run(SHOWN)),
             b.asked(item).and_then(|s| s.run(PLAIN)),
         );
-        let before = b.clone();
+        let before = (a.clone(), b.clone());
         let (shown, plain) = (a.play(SHOWN, item), b.play(PLAIN, item));
         let (Some(shown), Some(plain)) = (shown, plain) else {
             continue;
         };
         tally.calls += 1;
-        coverage.call(PLAIN, &before, item, &plain);
+        let held = [
+            as_the_gradient(SHOWN, &before.0, item, &shown),
+            as_the_gradient(PLAIN, &before.1, item, &plain),
+        ];
+        let against = held.contains(&Some(false));
+        tally.questions += u64::from(held != [None, None]);
+        tally.against += u64::from(against);
         let same = shown.text() == plain.text() && a.same(&b) && same_run(&runs.0, &runs.1);
-        if !same || !same_norms(item) {
+        if !same || !same_norms(item) || against {
             let mut text = String::new();
             a.write(&shown, &mut text);
             b.write(&plain, &mut text);
-            eprintln!("{text}{:?}\n{:?}", runs.0, runs.1);
+            eprintln!(
+                "{text}{:?}\n{:?}\nas the gradient: {held:?}",
+                runs.0, runs.1
+            );
             return Some(k);
         }
+        coverage.call(PLAIN, &before.1, item, &plain);
     }
     None
 }

@@ -1,5 +1,6 @@
 //! What a set of cases covered, with counts.
 
+use crate::above_rows;
 use crate::classes::{Asked, CLASSES};
 use crate::engines::Working;
 use crate::frozen_rows::{self, Marked};
@@ -25,6 +26,7 @@ pub fn name(item: &Item) -> &'static str {
         Item::Solve(_) => "held solve",
         Item::Mul => "held mul_qt_b",
         Item::Gradient(_) => "gradient",
+        Item::Above { .. } => "above limit",
         Item::Norm(_) => "norm of Jx",
         Item::Scale { .. } => "scaling",
         Item::Search { .. } => "search",
@@ -140,6 +142,7 @@ impl Coverage {
             Some(marked) => self.all(frozen_rows::of_call(engine, &marked, reply)),
             None => self.unmarked(engine, rooms, item, reply),
         }
+        self.all(above_rows::of_call(engine, rooms, item, reply));
     }
 
     fn unmarked(&mut self, engine: &dyn Working, rooms: &Rooms, item: &Item, reply: &Reply) {

@@ -4,7 +4,7 @@ use crate::engines::Working;
 use crate::replies::Reply;
 use crate::rooms::Rooms;
 use crate::script::Item;
-use crate::wanted::REFUSALS;
+use crate::wanted::{MODES, REFUSALS};
 use crate::{coverage, frozen_norms};
 use api::{End, Held, Mode, Stop, frozen, mark_past};
 
@@ -76,6 +76,7 @@ impl<'a> Marked<'a> {
                 lambda,
             } => [self.gathered(diag), vec![*radius, *lambda]].concat(),
             Item::Gradient(b_norm) => vec![*b_norm],
+            Item::Above { b_norm, limit } => vec![*b_norm, *limit],
             _ => Vec::new(),
         }
     }
@@ -167,12 +168,6 @@ const SHAPES: [&str; 5] = [
     "m < free",
     "n = 16",
 ];
-const MODES: [&str; 4] = [
-    "FirstScaled",
-    "FirstUnscaled",
-    "LaterScaled",
-    "LaterUnscaled",
-];
 const STOPS: [(Stop, &str); 4] = [
     (Stop::Undamped, "stopped undamped"),
     (Stop::Ten, "stopped at ten"),
@@ -203,7 +198,9 @@ fn of_answer(engine: &dyn Working, marked: &Marked, reply: &Reply) -> Vec<String
     let mut what: Vec<String> = Vec::new();
     let mut add = |word: &str| what.push(word.to_string());
     let state = marked.rooms.state;
-    if let Item::Factor { .. } | Item::Search { .. } | Item::NonSingular = marked.item {
+    if let Item::Factor { .. } | Item::Search { .. } | Item::NonSingular | Item::Above { .. } =
+        marked.item
+    {
         marked.shape().into_iter().for_each(&mut add);
     }
     match marked.item {
@@ -249,7 +246,7 @@ fn wanted_of_refusals(call: &str, number: u8) -> Vec<String> {
         (2, _) => &[PAST],
         (4, _) => &[LISTS[0], LISTS[1], LISTS[2], NONE_FREE],
         (5, "held solve" | "held mul_qt_b") => &["nothing held", NONE_FREE],
-        (6, "gradient") => &[NONE_FREE],
+        (6, "gradient" | "above limit") => &[NONE_FREE],
         (6, _) => &[FROZEN_NUMBER, NONE_FREE],
         (7, "search") => &[FROZEN_ZERO, NONE_FREE],
         (3 | 7, _) => &[NONE_FREE],
@@ -268,7 +265,7 @@ fn wanted_of_answers(call: &str) -> Vec<String> {
         "held solve" | "held mul_qt_b" => vec![&["Zero", "Damped"], &JUNK],
         "scaling" => vec![&MODES, &JUNK],
         "search" => vec![&[SHORT, "trials above one"], &SHAPES, &stops, &JUNK],
-        "is_non_singular" => vec![&SHAPES, &JUNK],
+        "is_non_singular" | "above limit" => vec![&SHAPES, &JUNK],
         _ => vec![&JUNK],
     };
     let what = what.concat();

@@ -1,5 +1,7 @@
 //! Cases for the two workings of document 01, and what the workings make of them.
 
+pub mod above;
+pub mod above_rows;
 pub mod apart;
 pub mod arguments;
 pub mod cases;
@@ -12,6 +14,7 @@ pub mod frozen_limits;
 pub mod frozen_norms;
 pub mod frozen_rows;
 pub mod leaf;
+pub mod make_above;
 pub mod make_calls;
 pub mod make_frozen;
 pub mod make_leaves;
@@ -27,6 +30,7 @@ pub mod ranges;
 pub mod replies;
 pub mod rooms;
 pub mod sample;
+pub mod sample_above;
 pub mod sample_frozen;
 pub mod sample_ranges;
 pub mod script;

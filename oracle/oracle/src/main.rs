@@ -126,6 +126,9 @@ fn compare(count: u64, seed: u64) -> Verdict {
         "{n} sequences with frozen columns ({m} calls) compared, {} differ",
         frozen.differ
     );
+    let questions = sequences.questions + frozen.questions;
+    let against = sequences.against + frozen.against;
+    println!("{questions} questions held against the same working's gradient, {against} differ");
     print!("{}", coverage.text());
     let differ = leaves.differ + sheets.differ + sequences.differ + frozen.differ;
     let compared = leaves.compared + sheets.compared + sequences.compared + frozen.compared;
@@ -134,8 +137,8 @@ fn compare(count: u64, seed: u64) -> Verdict {
 }
 
 fn checksum(engine: &dyn Working, task: &speed::Task) -> Outcome {
-    if !(1..=128).contains(&task.m) || !(1..=16).contains(&task.n) || task.mode > 4 {
-        return Err("m is 1 to 128, n 1 to 16, the mode 0 to 4".into());
+    if !(1..=128).contains(&task.m) || !(1..=16).contains(&task.n) || task.mode > 6 {
+        return Err("m is 1 to 128, n 1 to 16, the mode 0 to 6".into());
     }
     let mut text = String::new();
     text::push_double(&mut text, speed::sum(engine, task));

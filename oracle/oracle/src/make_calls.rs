@@ -2,6 +2,7 @@
 
 use crate::apart;
 use crate::arguments::{argument, length, scalar};
+use crate::make_above;
 use crate::near;
 use crate::pool::{Example, Pool};
 use crate::problem;
@@ -264,14 +265,14 @@ fn ended(mut items: Vec<Item>) -> Vec<Item> {
     items
 }
 
-/// One sequence in thirteen ends with what is drawn for the ranges (02, #106).
+/// One sequence in thirteen ends with what is drawn for the ranges (02, #106); among all are questions (#105).
 pub fn sequence(rng: &mut Random, pool: &Pool) -> Vec<Item> {
     let mut aside = rng.aside();
     let mut items = calls(rng, pool, &mut aside);
     if aside.percent(8) {
         items.append(&mut ranges::items(&mut aside));
     }
-    ended(items)
+    make_above::among(&mut aside, ended(items))
 }
 
 /// A factoring in its rooms and nothing else; after one in twenty-five, one for the ranges in rooms of its own.
@@ -284,7 +285,7 @@ pub fn factoring_alone(rng: &mut Random, pool: &Pool) -> Vec<Item> {
     ended(items)
 }
 
-/// The two without what is drawn for the ranges, which the sample has by itself.
+/// The two without what is drawn for the ranges and without questions, which the sample has by themselves.
 pub fn bare_sequence(rng: &mut Random, pool: &Pool) -> Vec<Item> {
     let mut aside = rng.aside();
     ended(calls(rng, pool, &mut aside))

@@ -3,6 +3,7 @@
 
 use crate::frozen_apart as apart;
 use crate::frozen_limits as limits;
+use crate::make_above;
 use crate::make_calls::{self, Scene, call, example, factoring, lend};
 use crate::pool::{Example, Pool};
 use crate::problem::{self, Problem};
@@ -210,7 +211,14 @@ fn factoring_alone(rng: &mut Random, pool: &Pool) -> Vec<Item> {
     items
 }
 
+/// With questions among the calls (02, #105).
 pub fn sequence(rng: &mut Random, pool: &Pool) -> Vec<Item> {
+    let mut aside = Random::new(rng.aside().bits());
+    make_above::among(&mut aside, bare_sequence(rng, pool))
+}
+
+/// Without them; the sample has these by themselves.
+pub fn bare_sequence(rng: &mut Random, pool: &Pool) -> Vec<Item> {
     let mut items = match rng.below(33) {
         0..11 => return make_calls::bare_sequence(rng, pool),
         11..22 => marked(rng, pool),

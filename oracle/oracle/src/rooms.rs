@@ -149,6 +149,7 @@ impl Rooms {
         } = self;
         let done = |()| Told::Done.into();
         let double = |x| Told::Doubles(vec![x]);
+        let truth = |yes| Told::Count(usize::from(yes)).into();
         let (answer, after) = match item {
             Item::Factor {
                 m,
@@ -180,6 +181,10 @@ impl Rooms {
                 let (r, s) = engine.max_a_t_b_scaled(*state, store, order, *b_norm);
                 (r.map(|x| double(x).into()), s)
             }
+            Item::Above { b_norm, limit } => {
+                let (r, s) = engine.above_limit(*state, store, order, *b_norm, *limit);
+                (r.map(truth), s)
+            }
             Item::Norm(x) => {
                 let (r, s) = engine.a_x_norm(*state, store, order, x);
                 (r.map(|(x, ranges)| Answer::with(double(x), ranges)), s)
@@ -198,7 +203,7 @@ impl Rooms {
             }
             Item::NonSingular => {
                 let (r, s) = engine.is_non_singular(*state, store);
-                (r.map(|yes| Told::Count(usize::from(yes)).into()), s)
+                (r.map(truth), s)
             }
             _ => unreachable!("not a call"),
         };

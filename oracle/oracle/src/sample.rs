@@ -5,6 +5,7 @@ use crate::coverage::Coverage;
 use crate::engines::PLAIN;
 use crate::make_calls::{bare_factoring, bare_sequence};
 use crate::random::Random;
+use crate::sample_above;
 use crate::sample_frozen;
 use crate::sample_ranges;
 use crate::script::Item;
@@ -277,6 +278,7 @@ pub fn cases() -> Vec<Vec<Item>> {
         sequences(),
         ranges,
         sample_frozen::cases(),
+        sample_above::cases(),
     ]
     .concat()
 }

@@ -85,7 +85,7 @@ fn none_free() -> Vec<Vec<Item>> {
 
 fn first_shown() -> Vec<Vec<Item>> {
     let (wanted, mut shown) = (wanted_of_frozen(), Coverage::default());
-    drawn(make_frozen::sequence, DRAWN, 108)
+    drawn(make_frozen::bare_sequence, DRAWN, 108)
         .filter(|items| {
             let mut own = Coverage::default();
             own.sequence(PLAIN, items);

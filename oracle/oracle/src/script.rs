@@ -28,6 +28,11 @@ pub enum Item {
     Solve(Vec<f64>),
     Mul,
     Gradient(f64),
+    /// Whether the gradient is above a limit (02, #105).
+    Above {
+        b_norm: f64,
+        limit: f64,
+    },
     Norm(Vec<f64>),
     Scale {
         mode: Mode,
@@ -136,6 +141,10 @@ pub fn read(line: &str) -> Result<Item, String> {
         "S" => Item::Solve(numbered(&mut t)?),
         "M" => Item::Mul,
         "G" => Item::Gradient(t.double()?),
+        "A" => Item::Above {
+            b_norm: t.double()?,
+            limit: t.double()?,
+        },
         "N" => Item::Norm(numbered(&mut t)?),
         "U" => scale(&mut t)?,
         "L" => Item::Search {
@@ -229,6 +238,7 @@ pub fn write(item: &Item, out: &mut String) {
         Item::Solve(rhs) => line.begin('S').numbered(rhs),
         Item::Mul => line.begin('M'),
         Item::Gradient(x) => line.begin('G').double(*x),
+        Item::Above { b_norm, limit } => line.begin('A').double(*b_norm).double(*limit),
         Item::Norm(x) => line.begin('N').numbered(x),
         Item::Scale {
             mode,

@@ -40,10 +40,24 @@ impl Rooms {
         engine.enorm(&self.step).map_or(0.0, |(x, _)| x * 0.1)
     }
 
+    /// The gradient, or 1 where the question says yes; 0 where they are refused (02, #105).
+    fn asked(&mut self, engine: &dyn Working, state: State, mode: u64) -> f64 {
+        let Rooms { store, order, .. } = self;
+        if mode == 5 {
+            let (measure, _) = engine.max_a_t_b_scaled(state, store, order, 1.0);
+            return measure.unwrap_or(0.0);
+        }
+        let (yes, _) = engine.above_limit(state, store, order, 1.0, 0.0);
+        f64::from(u8::from(yes == Ok(true)))
+    }
+
     fn further(&mut self, engine: &dyn Working, state: State, mode: u64) -> f64 {
         let n = state.n;
         if mode == 1 {
             return 0.0;
+        }
+        if mode > 4 {
+            return self.asked(engine, state, mode);
         }
         for (d, x) in self.diag.iter_mut().zip(&self.store[n * n + n..]) {
             *d = if *x == 0.0 { 1.0 } else { *x };

@@ -1,22 +1,32 @@
 //! What a set of cases must cover.
 
+use crate::above_rows;
 use crate::classes::CLASSES;
 use crate::frozen_rows;
 use crate::seen;
 
 /// Every refusal that each call can give, by document 01's table.
-pub const REFUSALS: [(&str, &[u8]); 11] = [
+pub const REFUSALS: [(&str, &[u8]); 12] = [
     ("factor", &[2, 3, 6, 8]),
     ("zero solve", &[2, 3, 4, 5, 8]),
     ("damped solve", &[2, 3, 4, 5, 6, 8]),
     ("held solve", &[2, 3, 4, 5, 6, 8]),
     ("held mul_qt_b", &[2, 3, 5, 8]),
     ("gradient", &[2, 3, 4, 5, 6, 7, 8]),
+    ("above limit", &[2, 3, 4, 5, 6, 7, 8]),
     ("norm of Jx", &[2, 3, 4, 5, 6, 8]),
     ("scaling", &[2, 3, 5, 6, 7, 8]),
     ("search", &[2, 3, 4, 5, 6, 7, 8]),
     ("determined", &[2, 3, 5]),
     ("is_non_singular", &[2, 3, 5]),
+];
+
+/// The scaling's.
+pub const MODES: [&str; 4] = [
+    "FirstScaled",
+    "FirstUnscaled",
+    "LaterScaled",
+    "LaterUnscaled",
 ];
 
 /// What `determined` is told of the diagonal, and what it answers (02, #104).
@@ -98,13 +108,21 @@ pub fn wanted_of_factorings() -> Vec<String> {
     [answers_of_factorings(), seen::wanted_of_factorings()].concat()
 }
 
-/// What the cases with frozen columns show (02, #108).
+/// What the cases with frozen columns show (02, #108), the question among them (#105).
 pub fn wanted_of_frozen() -> Vec<String> {
-    frozen_rows::wanted()
+    [frozen_rows::wanted(), above_rows::wanted_with_marks()].concat()
 }
 
 pub fn wanted_of_calls() -> Vec<String> {
-    [wanted_but_ranges(), wanted_ranges()].concat()
+    let above = above_rows::wanted();
+    [wanted_but_ranges(), above, wanted_ranges()].concat()
+}
+
+/// What is wanted of the question (02, #105), without marks and with them.
+pub fn wanted_above() -> Vec<String> {
+    let all = [wanted_of_calls(), wanted_of_frozen()].concat();
+    let of_question = |row: &String| row.contains("above limit ");
+    all.into_iter().filter(of_question).collect()
 }
 
 /// What is wanted of the ranges (02, #106).
@@ -117,12 +135,7 @@ pub fn wanted_but_ranges() -> Vec<String> {
     for (call, numbers) in &REFUSALS[1..] {
         wanted.extend(answers_of(call, numbers));
     }
-    for mode in [
-        "FirstScaled",
-        "FirstUnscaled",
-        "LaterScaled",
-        "LaterUnscaled",
-    ] {
+    for mode in MODES {
         wanted.push(format!("scaling ok, {mode}"));
     }
     for held in ["Zero", "Damped"] {

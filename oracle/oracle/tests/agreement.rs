@@ -24,6 +24,7 @@ fn sheets_and_sequences_agree() {
     assert_eq!((sheets.compared, sheets.differ), (2000, 0));
     assert_eq!((sequences.compared, sequences.differ), (1000, 0));
     assert!(sequences.calls > 5000);
+    assert!(sequences.questions > 300 && sequences.against == 0);
 }
 
 /// 02, #108: a third of these has no mark.
@@ -32,6 +33,7 @@ fn frozen_sequences_agree_and_cover() {
     let mut coverage = Coverage::default();
     let tally = compare::frozen(3000, 1, &mut coverage);
     assert_eq!((tally.compared, tally.differ), (3000, 0));
+    assert!(tally.questions > 1000 && tally.against == 0);
     assert_eq!(coverage.missing(&wanted_of_frozen()), Vec::<String>::new());
 }
 

@@ -243,14 +243,18 @@ fn call(rng: &mut Random, example: &Example, which: usize) -> Item {
             lambda: example.lambda,
         },
         8 => Item::Determined,
-        _ => Item::NonSingular,
+        9 => Item::NonSingular,
+        _ => Item::Above {
+            b_norm: rng.pick(&[1.0, 1e-300, 1e300]),
+            limit: rng.pick(&[0.0, 0.5, 1.0, 1e300]),
+        },
     }
 }
 
 fn compared(engine: &dyn Working, seed: u64) {
     let pool = Pool::hunt(seed);
     let mut rng = Random::new(seed);
-    let mut answered = [0; 10];
+    let mut answered = [0; 11];
     for _ in 0..1500 {
         let (example, marks) = marked_example(&mut rng, &pool);
         if free(marks, example.problem.n) == 0 {
@@ -261,7 +265,7 @@ fn compared(engine: &dyn Working, seed: u64) {
             continue;
         }
         for _ in 0..6 {
-            let which = rng.below(10);
+            let which = rng.below(11);
             twins.soil(&mut rng);
             let item = call(&mut rng, &example, which);
             answered[which] += usize::from(twins.call(engine, &item));

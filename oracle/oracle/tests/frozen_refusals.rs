@@ -3,7 +3,7 @@
 mod common;
 
 use api::{EMPTY, Held, Mode, State};
-use common::{J, NAN, R, bits, both, calls, played, says, scaling, search};
+use common::{J, NAN, R, ask, bits, both, calls, played, says, scaling, search};
 use oracle::engines::Working;
 use oracle::rooms::Rooms;
 use oracle::script::Item;
@@ -146,6 +146,8 @@ fn nine_comes_after_seven() {
         refused(Held::Zero, order, search(&[1.0; 3], 0.0), 7);
         refused(Held::Zero, order, search(&[1.0, 0.0, 1.0], 1.0), 7);
         refused(Held::Zero, order, Item::Gradient(-1.0), 7);
+        refused(Held::Zero, order, ask(1.0, NAN), 6);
+        refused(Held::Zero, order, ask(1.0, -1.0), 7);
     });
 }
 

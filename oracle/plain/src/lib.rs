@@ -6,6 +6,7 @@
 mod elimination;
 mod factoring;
 mod frozen;
+mod gradient;
 mod leaves;
 mod measures;
 mod residuals;
@@ -142,7 +143,17 @@ impl Engine for Plain {
         order: &[usize],
         b_norm: f64,
     ) -> (Result<f64, u8>, State) {
-        measures::max_a_t_b_scaled(state, store, order, b_norm)
+        gradient::max_a_t_b_scaled(state, store, order, b_norm)
+    }
+    fn above_limit(
+        &self,
+        state: State,
+        store: &mut [f64],
+        order: &[usize],
+        b_norm: f64,
+        limit: f64,
+    ) -> (Result<bool, u8>, State) {
+        gradient::above_limit(state, store, order, b_norm, limit)
     }
     fn a_x_norm(
         &self,

@@ -1,8 +1,8 @@
-//! Module 6 of document 01: gradient, norm of Jx, scaling; and the two questions about R's diagonal. Also the ranges of
-//! several norms (02, #106).
+//! Module 6 of document 01: norm of Jx, scaling (its gradient is in `gradient.rs`); and the two questions about R's
+//! diagonal. Also the ranges of several norms (02, #106).
 
 use crate::frozen::Columns;
-use crate::leaves::{abs, all_finite, axpy, dot, enorm, is_finite, max};
+use crate::leaves::{abs, all_finite, axpy, enorm, is_finite, max};
 use crate::room::{Room, admit};
 use crate::solves::finite_and_free;
 use api::{Measured, Mode, Of, Ranges, Start, State};
@@ -21,55 +21,8 @@ pub fn all_seen(norms: &[Measured]) -> Ranges {
     seen
 }
 
-/// None where the Rust gives None. "The gradient skips columns of norm zero."
-fn largest(room: &Room, order: &[usize], b: &[f64]) -> Option<f64> {
-    let mut most = 0.0;
-    for j in 0..room.n {
-        let scale = room.norms[order[j]];
-        if scale == 0.0 {
-            continue;
-        }
-        let measure = abs(dot(room.part(j, 0, j + 1), &b[..j + 1]) / scale);
-        if measure.is_nan() {
-            return None;
-        }
-        most = max(most, measure);
-    }
-    Some(most)
-}
-
-fn finite_or_8(x: Option<f64>) -> Result<f64, u8> {
-    match x {
-        Some(x) if is_finite(x) => Ok(x),
-        _ => Err(8),
-    }
-}
-
-pub fn max_a_t_b_scaled(
-    state: State,
-    store: &mut [f64],
-    order: &[usize],
-    b_norm: f64,
-) -> (Result<f64, u8>, State) {
-    let columns = match admit(state, store, Some(order), &[], false) {
-        Ok(columns) => columns,
-        Err(k) => return (Err(k), state),
-    };
-    if !is_finite(b_norm) {
-        return (Err(6), state);
-    }
-    if b_norm <= 0.0 {
-        return (Err(7), state);
-    }
-    if columns.free == 0 {
-        return (Err(9), state);
-    }
-    let mut small = columns.narrow(store);
-    let room = Room::of(columns.free, &mut small);
-    let b: Vec<f64> = room.qt_b.iter().map(|x| x / b_norm).collect();
-    let answer = largest(&room, order, &b);
-    columns.clear_work(store);
-    (finite_or_8(answer), state)
+pub fn finite_or_8(x: f64) -> Result<f64, u8> {
+    if is_finite(x) { Ok(x) } else { Err(8) }
 }
 
 pub fn a_x_norm(
@@ -91,7 +44,7 @@ pub fn a_x_norm(
     }
     columns.clear_work(store);
     let (norm, seen) = enorm(&sums);
-    let answer = finite_or_8(Some(norm)).map(|norm| (norm, seen));
+    let answer = finite_or_8(norm).map(|norm| (norm, seen));
     (answer, state)
 }
 

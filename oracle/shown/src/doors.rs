@@ -50,6 +50,19 @@ impl Problem {
         }
     }
 
+    /// The measure of the column at one place of the pivot order, worked out by the Rust: its gradient of the problem in
+    /// which every other column's norm is zero, since it skips such columns. None for a NaN, as the Rust has it; zero, which
+    /// is above no limit, for a column that is skipped for its own norm (02, #105).
+    pub fn column_measure(&mut self, place: usize, b_norm: f64) -> Option<f64> {
+        let norms = self.column_norms.clone();
+        let own = self.permutation[place];
+        self.column_norms.fill(0.0);
+        self.column_norms[own] = norms[own];
+        let measure = self.max_a_t_b_scaled(b_norm);
+        self.column_norms = norms;
+        measure
+    }
+
     pub fn order(&self) -> &[usize] {
         self.permutation.as_slice()
     }

@@ -4,11 +4,16 @@ use crate::factoring::{self, unordered};
 use crate::qr::doors::{Problem, vector};
 use crate::room::{Room, all_finite, finite, unless};
 use crate::searching::{self, Question};
-use crate::{Shown, recorder, scaling, sheet};
+use crate::{Shown, above, recorder, scaling, sheet};
 use api::{Engine, Found, Held, Mode, Ranges, Start, State};
 
 /// The tests of a solve, without those of its numbers.
-fn check_solve(state: State, store: &[f64], order: &[usize], others: &[usize]) -> Result<Room, u8> {
+pub fn check_solve(
+    state: State,
+    store: &[f64],
+    order: &[usize],
+    others: &[usize],
+) -> Result<Room, u8> {
     let room = Room::of_state(state)?;
     room.lengths(store, &[(order.len(), room.n)])?;
     for length in others {
@@ -210,6 +215,18 @@ impl Engine for Shown {
         b_norm: f64,
     ) -> (Result<f64, u8>, State) {
         (max_a_t_b_scaled(state, store, order, b_norm), state)
+    }
+
+    fn above_limit(
+        &self,
+        state: State,
+        store: &mut [f64],
+        order: &[usize],
+        b_norm: f64,
+        limit: f64,
+    ) -> (Result<bool, u8>, State) {
+        let answer = above::above_limit(state, store, order, b_norm, limit);
+        (answer, state)
     }
 
     fn a_x_norm(

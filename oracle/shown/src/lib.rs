@@ -3,6 +3,7 @@
 //! `qr.rs`, `trust_region.rs` and the marked lines of `update_diag.rs` and `published.rs` are the crate's own, byte for
 //! byte, so they are not reformatted; `traced.rs` is `trust_region.rs` with marked lines added.
 
+mod above;
 mod engine;
 mod factoring;
 mod frozen;

@@ -151,6 +151,10 @@ fn call(
             let (answer, state) = Shown.a_x_norm(state, store, order, &lent);
             (number(&answer), state, false)
         }
+        13 => {
+            let (answer, state) = Shown.above_limit(state, store, order, radius, lambda);
+            (number(&answer), state, false)
+        }
         7 => {
             let (answer, state) = Shown.determined(state, store);
             (number(&answer), state, false)
@@ -193,7 +197,7 @@ fn assert_settled(site: &Site, which: usize, refused: bool) {
 }
 
 fn step(site: &mut Site, numbers: &mut Numbers, n: usize) -> u8 {
-    let which = numbers.below(13);
+    let which = numbers.below(14);
     let work = n * n + 3 * n..n * n + 4 * n;
     // Every call leaves +0 there, so that only a soiled work shows which of them wrote it.
     site.store[work.clone()].fill(7.0);
@@ -294,7 +298,7 @@ fn made_up_rooms_are_answered_or_refused() {
     for _ in 0..20000 {
         let mut site = made_up(&mut numbers);
         let before = site.clone();
-        let which = numbers.below(13);
+        let which = numbers.below(14);
         let mut out = vec![7.0; site.state.n + SURPLUS];
         let (refused, state, _) = call(which, &mut site, &mut numbers, &mut out);
         if (1..8).contains(&refused) {

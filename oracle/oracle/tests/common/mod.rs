@@ -1,4 +1,4 @@
-//! Factorings with marks in lent rooms full of junk, for the tests of 02, #108; each of them uses a part.
+//! Factorings with marks in lent rooms full of junk, for the tests of 02, #108 and #105; each of them uses a part.
 #![allow(dead_code)]
 
 use api::Mode;
@@ -49,14 +49,19 @@ pub fn scaling(mode: Mode, diag: &[f64], x: &[f64]) -> Item {
     }
 }
 
+pub fn ask(b_norm: f64, limit: f64) -> Item {
+    Item::Above { b_norm, limit }
+}
+
 /// Every call that takes a state, with arguments that pass for three columns.
-pub fn calls() -> [Item; 10] {
+pub fn calls() -> [Item; 11] {
     let v = || vec![1.0, 2.0, 3.0];
     [
         Item::Zero,
         Item::Damped(v()),
         Item::Solve(v()),
         Item::Gradient(1.0),
+        ask(1.0, 1.0),
         Item::Norm(v()),
         search(&v(), 0.5),
         Item::Mul,
