@@ -145,7 +145,7 @@ module _ (m n : ℕ) (jacobian residuals store : List Float) (order : List ℕ) 
 pub demand-1-leaves : Leaves
 demand-1-leaves = leaf.leaves
 
--- The workings without a state, a search's seven with `reduce_bench`, `reduce_filled`, `factor_filled` and `eliminate_diag`, and the parts of a store, a row
+-- The workings without a state, a search's seven with `reduce_filled`, `factor_filled` and `eliminate_diag`, and the parts of a store, a row
 -- for each: 2 for its sizes, 3 for a slice that does not fit, each exactly when it is the first that holds, and then every lent slice is as it came;
 -- answered otherwise, but `factor_filled` refused 8 exactly where the room that it would leave is not finite, with what is then in the lent slices.
 pub demand-1-workings : Workings

@@ -99,7 +99,6 @@ workings = record {
   product = λ n store w. by-tests _ _ _ _ refl (λ r. refl) refl;
   full-rank = λ m n store. by-tests _ _ _ _ refl (λ r. refl) refl;
   empty = λ n store. by-tests _ _ _ _ refl (λ r. refl) refl;
-  reduce-bench = λ m n jacobian residuals norms diag order bench. by-tests _ _ _ _ refl (λ r. refl) refl;
   reduce-filled = λ m n norms diag order bench. by-tests _ _ _ _ refl (λ r. refl) refl;
   factor-filled = λ m n store order bench.
       let j = take (m * n) bench in

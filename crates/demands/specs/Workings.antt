@@ -13,7 +13,7 @@ use Rattle.leaves.specs.Triangle.{solveUpper}
 use Rattle.leaves.specs.Norm.{enorm}
 use Rattle.demands.specs.Calls.{replyNumber}
 use Rattle.leaves.specs.Tests.{Test, firstOf}
-use Rattle.reduce.specs.Reduced.{Reduced, reducedAs, reduceTests, reduceCall, filledCall as reduceFilled}
+use Rattle.reduce.specs.Reduced.{Reduced, reducedAs, reduceTests, filledCall as reduceFilled}
 use Rattle.eliminate.specs.Eliminated.{Eliminated, eliminatedAs, eliminateTests, eliminateCall}
 use Rattle.factor.specs.Outcome.{Read, read, Left, leftIn}
 use Rattle.factor.specs.Factoring.{finiteRoom}
@@ -64,8 +64,8 @@ pub record ByTestsAnd8 {A B : Type 0} (tests : List Test) (reply : A → Reply B
 abbrev Reads : List Test → List Float → Read → Type 0
 Reads ts w o = ByTests ts (λ (x : Read). x .reply) (λ a. read a w) o
 
--- 2 for the sizes; 3 for a store or another slice that is too short, of `reduce_bench`, `reduce_filled` and `eliminate_diag` for one that is not of its
--- exact length; of `factor_filled` 8 too, as of a factoring
+-- 2 for the sizes; 3 for a store or another slice that is too short, of `reduce_filled` and `eliminate_diag` for one that is not of its exact
+-- length; of `factor_filled` 8 too, as of a factoring
 pub record Workings : Type 0 where
   pub zero : (m n : ℕ) (store w : List Float) → Reads (sizeTests m n (length store) (length w)) w (zeroIn m n store w)
   pub damped : (n : ℕ) (ds store w : List Float)
@@ -75,9 +75,6 @@ pub record Workings : Type 0 where
   pub product : (n : ℕ) (store w : List Float) → Reads (sizeTests 1 n (length store) (length w)) w (productIn n store w)
   pub full-rank : (m n : ℕ) (store : List Float) → ByTests (sizeTests m n (length store) n) (λ (x : Reply Bool). x) (λ a. a) (fullRank m n store)
   pub empty : (n : ℕ) (store : List Float) → Reads (sizeTests 1 n (length store) n) store (emptyIn n store)
-  pub reduce-bench : (m n : ℕ) (jacobian residuals norms diag : List Float) (order : List ℕ) (bench : List Float)
-      → ByTests (reduceTests m n (length jacobian) (length residuals) (length norms) (length diag) (length order) (length bench))
-      (λ (x : Reduced). x .reply) (λ a. reducedAs a norms diag order bench) (reduceCall m n jacobian residuals norms diag order bench)
   pub reduce-filled : (m n : ℕ) (norms diag : List Float) (order : List ℕ) (bench : List Float)
       → ByTests (reduceTests m n (length (take (m * n) bench)) (length (drop (m * n) bench)) (length norms) (length diag) (length order) (length bench))
       (λ (x : Reduced). x .reply) (λ a. reducedAs a norms diag order bench) (reduceFilled m n norms diag order bench)

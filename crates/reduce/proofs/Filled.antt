@@ -1,13 +1,12 @@
--- The reduction of what stands in the bench, by its tests and by what is worked on it, and the reduction of lent numbers by way of it. Assumes nothing.
-use mathlib.Core.Path.{_≡_, refl, sym, ap, _∙_}
+-- The reduction of what stands in the bench, by its tests and by what is worked on it. Assumes nothing.
+use mathlib.Core.Path.{_≡_, refl, ap, _∙_}
 use mathlib.Core.Bool.{Bool, true, false, and-false}
-use mathlib.Core.List.{List, [], _++_, map}
+use mathlib.Core.List.{List, [], map}
 use Prim.Native.Nat.{ℕ, _+_, _*_, min}
-use native.Mathlib.Nat.{le-of-eq}
 use native.Mathlib.Omega.{arith}
 use lib.Dec.{eqb}
-use lib.ListN.{length, getD, take, drop, length-append, length-drop}
-use lib.Seq.{length-take-le, take-at, drop-at, take-all}
+use lib.ListN.{length, getD, take, drop, length-drop}
+use lib.Seq.{length-take-le}
 use lib.Ieee.{Float}
 use borrow.Author.Tests.{eqb-true}
 use Rattle.leaves.specs.Reply.{Reply, answered, refused}
@@ -18,9 +17,9 @@ use Rattle.leaves.specs.Loop.{upto, along}
 use Rattle.leaves.specs.Triangle.{columns}
 use Rattle.reduce.specs.Reduction.{start, reduced as reducedAt, measuredAt}
 use Rattle.reduce.specs.inner.Bench.{grid, underWay, Reduces}
-use Rattle.reduce.specs.Reduced.{Reduced, reducedAs, reduceTests, reduceCall, filledCall}
+use Rattle.reduce.specs.Reduced.{reducedAs, reduceTests, filledCall}
 use Rattle.reduce.proofs.Begins.{filled-columns, filled-residuals}
-use Rattle.reduce.proofs.Lent.{Lengths, fitting, call-refuses, call-works, call-works-out, reduces}
+use Rattle.reduce.proofs.Lent.{fitting, call-refuses, call-works-out, reduces}
 
 -- ---- the tests: the bench's length tells those of the columns and of the residuals in it
 module _ (m n : ℕ) (b : List Float) where
@@ -64,18 +63,3 @@ module _ (m n : ℕ) (v₀ d₀ : List Float) (o₀ : List ℕ) (b₀ : List Flo
     pub filled-reduces : (v d b : List Float) (o : List ℕ) {r : Reply Ranges} → reducedAs r v d o b ≡ filledCall m n v₀ d₀ o₀ b₀ → Reduces m n (take (m * n) b₀) (drop (m * n) b₀) r v d o b
     unfolding filledCall
     filled-reduces v d b o e = reduces m n (take (m * n) b₀) (drop (m * n) b₀) v₀ v d₀ d o₀ o b₀ b sizes (front-long m n b₀ lb) (back-long m n b₀ lb) lv ld lo lb e
-
--- ---- lent numbers, copied to the bench
-pub copied-call : (m n : ℕ) (jac res v₀ d₀ : List Float) (o₀ : List ℕ) (b₀ b₁ : List Float) {x : Reduced} → Lengths m n (length jac) (length res) (length v₀) (length d₀) (length o₀) (length b₀)
-    → b₁ ≡ take (m * n) jac ++ take m res → x ≡ filledCall m n v₀ d₀ o₀ b₁ → x ≡ reduceCall m n jac res v₀ d₀ o₀ b₀
-unfolding filledCall
-copied-call m n jac res v₀ d₀ o₀ b₀ b₁ l eb ex =
-    let e : b₁ ≡ jac ++ res = rw (eb, take-all (m * n) jac (le-of-eq (l .jac-long)), take-all m res (le-of-eq (l .res-long))) in
-    let j : take (m * n) b₁ ≡ jac = ap (take (m * n)) e ∙ take-at jac res (m * n) (l .jac-long) in
-    let r : drop (m * n) b₁ ≡ res = ap (drop (m * n)) e ∙ drop-at jac res (m * n) (l .jac-long) in
-    let long : length b₁ ≡ m * n + m = ap length e ∙ length-append jac res ∙ rw (l .jac-long, l .res-long) in
-    let t₁ = fitting m n (length jac) (length res) (length v₀) (length d₀) (length o₀) (length b₁)
-    (record { sizes = l .sizes; jac-long = l .jac-long; res-long = l .res-long; norms-long = l .norms-long; diag-long = l .diag-long; order-long = l .order-long; bench-long = long }) in
-    let t₀ = fitting m n (length jac) (length res) (length v₀) (length d₀) (length o₀) (length b₀) l in
-    let here : reduceCall m n (take (m * n) b₁) (drop (m * n) b₁) v₀ d₀ o₀ b₁ ≡ reduceCall m n jac res v₀ d₀ o₀ b₁ = rw (j, r) in
-    ex ∙ here ∙ sym (call-works m n jac res v₀ d₀ o₀ b₁ t₁) ∙ call-works m n jac res v₀ d₀ o₀ b₀ t₀

@@ -136,7 +136,7 @@ module _ (m n : ℕ) (jac res v₀ d₀ : List Float) (o₀ : List ℕ) (b₀ : 
   unfolding reduceCall
   call-refuses c e h = call-refused worked (λ (k : ℕ). reducedAs (refused k) v₀ d₀ o₀ b₀) _ c (sym e) (ne-eqb c 0 h)
 
-  pub call-works : tests ≡ 0 → worked ≡ reduceCall m n jac res v₀ d₀ o₀ b₀
+  call-works : tests ≡ 0 → worked ≡ reduceCall m n jac res v₀ d₀ o₀ b₀
   unfolding reduceCall
   call-works e = call-worked worked (λ (k : ℕ). reducedAs (refused k) v₀ d₀ o₀ b₀) _ e
 

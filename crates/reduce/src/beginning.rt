@@ -4,28 +4,14 @@ use crate::wrap::copy_of;
 use leaves::norm::Ranges;
 use leaves::norm::either;
 use leaves::norm::neither;
-use leaves::pieces::copy_long;
 use leaves::vector::count;
 ghost use mathlib.Core.Path.{_≡_};
-ghost use mathlib.Core.List.{[], _++_, map};
-ghost use Prim.Native.Nat.{_+_, _*_, _<_, _≤_};
+ghost use mathlib.Core.List.{[], map};
+ghost use Prim.Native.Nat.{_<_};
 ghost use lib.ListN.{length, getD, take};
 ghost use Rattle.leaves.specs.Norm.{norm, rangesOf};
 ghost use Rattle.reduce.specs.Reduction.{start};
 ghost use Rattle.reduce.specs.inner.Bench.{grid, Benched, underWay};
-
-// The Jacobian and then the residuals, in a bench.
-pub(crate) fn copy_in(m: usize, n: usize, jacobian: &[f64], residuals: &[f64], bench: &mut [f64])
-    requires { ⌜ Benched m n (now bench) ⌝ }
-    requires { ⌜ m * n ≤ length (now jacobian) ⌝ }
-    requires { ⌜ m ≤ length (now residuals) ⌝ }
-    ensures { λ _. ⌜ now (bench .exit) ≡ take (m * n) (now (jacobian .entry)) ++ take m (now (residuals .entry)) ⌝ }
-{
-    let p = m * n;
-    let e = p + m;
-    copy_long(&jacobian[..p], &mut bench[..p]);
-    copy_of(&residuals[..m], &mut bench[p..e]);
-}
 
 // The norms of the columns, and the ranges that took part in them.
 fn norms_in(m: usize, n: usize, bench: &[f64], norms: &mut [f64]) -> Ranges

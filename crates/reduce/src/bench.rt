@@ -1,6 +1,5 @@
 // Document 01, modules 2 and 3: the reduction on lent slices.
 use crate::beginning::begin_filled;
-use crate::beginning::copy_in;
 use crate::reduce::reduce;
 use leaves::norm::Ranges;
 use leaves::reply::Ranged;
@@ -12,7 +11,7 @@ ghost use Prim.Native.Nat.{_+_, _*_};
 ghost use lib.ListN.{length};
 ghost use Rattle.leaves.specs.Reply.{rangedOf, answered};
 ghost use Rattle.leaves.specs.Tests.{firstOf, outside};
-ghost use Rattle.reduce.specs.Reduced.{reducedAs, reduceTests, reduceCall, filledCall};
+ghost use Rattle.reduce.specs.Reduced.{reducedAs, reduceTests, filledCall};
 
 fn room128() -> [f64; 128]
     ensures { λ r. ⌜ length r ≡ 128 ⌝ }
@@ -20,26 +19,12 @@ fn room128() -> [f64; 128]
     [0.0; 128]
 }
 
-fn check(
-    m: usize,
-    n: usize,
-    jacobian: usize,
-    residuals: usize,
-    norms: usize,
-    diag: usize,
-    order: usize,
-    bench: usize,
-) -> u8
-    ensures { λ r. ⌜ r ≡ firstOf (reduceTests m n jacobian residuals norms diag order bench) ⌝ }
+// The columns and the residuals stand in the bench: its length tells theirs.
+fn check(m: usize, n: usize, norms: usize, diag: usize, order: usize, bench: usize) -> u8
+    ensures { λ r. ⌜ r ≡ firstOf (reduceTests m n (m * n) m norms diag order bench) ⌝ }
 {
     if outside(m, n) {
         return 2;
-    }
-    if jacobian != m * n {
-        return 3;
-    }
-    if residuals != m {
-        return 3;
     }
     if norms != n {
         return 3;
@@ -51,16 +36,6 @@ fn check(
         return 3;
     }
     if bench != m * n + m { 3 } else { 0 }
-}
-
-// The same where the columns and the residuals stand in the bench: its length tells theirs.
-fn check_filled(m: usize, n: usize, norms: usize, diag: usize, order: usize, bench: usize) -> u8
-    ensures { λ r. ⌜ r ≡ firstOf (reduceTests m n (m * n) m norms diag order bench) ⌝ }
-{
-    if outside(m, n) {
-        return 2;
-    }
-    check(m, n, m * n, m, norms, diag, order, bench)
 }
 
 // All tests passed: what stands in the bench, reduced.
@@ -94,44 +69,8 @@ fn reduce_whole(
     )
 }
 
-// Reduces a Jacobian to R by reflections with column pivoting, and its residuals with it.
-//
-// m, n: rows and columns. jacobian: m·n numbers, column by column, only read. residuals: m numbers, only read. norms: n numbers, not read;
-// on exit the norms of the Jacobian's columns. diag: n numbers, not read; on exit R's diagonal, min(m, n) of them by reflections. order: n
-// places, not read; on exit the column that stands at each. bench: m·n + m numbers, not read; on exit the reduced columns, column k with
-// R's first k, and then the transformed residuals.
-// Answers the ranges that took part in any norm worked out for it (02, #106).
-// Refused 2 for m outside 1 to 128 or n outside 1 to 16, 3 where a slice is not of its exact length; every slice is then as it was.
-pub fn reduce_bench(
-    m: usize,
-    n: usize,
-    jacobian: &[f64],
-    residuals: &[f64],
-    norms: &mut [f64],
-    diag: &mut [f64],
-    order: &mut [usize],
-    bench: &mut [f64],
-) -> Ranged
-    ensures { λ r. ⌜ reducedAs (rangedOf r) (now (norms .exit)) (now (diag .exit)) (now (order .exit)) (now (bench .exit)) ≡ reduceCall m n (now (jacobian .entry)) (now (residuals .entry)) (now (norms .entry)) (now (diag .entry)) (now (order .entry)) (now (bench .entry)) ⌝ }
-{
-    let c = check(
-        m,
-        n,
-        jacobian.len(),
-        residuals.len(),
-        norms.len(),
-        diag.len(),
-        order.len(),
-        bench.len(),
-    );
-    if c != 0 {
-        return Ranged::Refused(c);
-    }
-    copy_in(m, n, jacobian, residuals, bench);
-    Ranged::Seen(reduce_whole(m, n, norms, diag, order, bench))
-}
-
-// As `reduce_bench`, of a Jacobian and residuals that stand in the bench already (02, #108).
+// Reduces a Jacobian to R by reflections with column pivoting, and its residuals with it. Both stand in the bench: with frozen columns it is
+// the free ones that are gathered there (02, #108).
 //
 // m, n: rows and columns. norms: n numbers, not read; on exit the norms of the columns. diag: n numbers, not read; on exit R's diagonal,
 // min(m, n) of them by reflections. order: n places, not read; on exit the column that stands at each. bench: m·n + m numbers, the columns
@@ -148,7 +87,7 @@ pub fn reduce_filled(
 ) -> Ranged
     ensures { λ r. ⌜ reducedAs (rangedOf r) (now (norms .exit)) (now (diag .exit)) (now (order .exit)) (now (bench .exit)) ≡ filledCall m n (now (norms .entry)) (now (diag .entry)) (now (order .entry)) (now (bench .entry)) ⌝ }
 {
-    let c = check_filled(m, n, norms.len(), diag.len(), order.len(), bench.len());
+    let c = check(m, n, norms.len(), diag.len(), order.len(), bench.len());
     if c != 0 {
         return Ranged::Refused(c);
     }
