@@ -21,3 +21,4 @@ pub mod Leavings
 pub mod Surplus
 pub mod Factorings
 pub mod OneFactor
+pub mod OneTests

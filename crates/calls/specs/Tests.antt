@@ -6,7 +6,7 @@ use mathlib.Core.List.{List, [], _∷_, _++_}
 use lib.Dec.{ltb, eqb}
 use lib.ListN.{length, take, drop}
 use Rattle.leaves.specs.Tests.{outside, Test, firstOf}
-use Rattle.frozen.specs.Frozen.{markPast}
+use Rattle.frozen.specs.Frozen.{marksOf, markPast, freeCount}
 use Rattle.factor.specs.State.{isEmpty, storeNeed}
 use Rattle.factor.specs.Tests.{isPermutation}
 use Rattle.calls.specs.declared.state.State.{State}
@@ -27,6 +27,14 @@ continues k (x ∷ xs) = eqb x k && continues (suc k) xs
 -- 4: the free columns, counted from 0 among themselves, in the first places; then the count goes on
 abbrev pub isOrder : ℕ → ℕ → List ℕ → Bool
 isOrder free n order = isPermutation free order && continues free (drop free (take n order))
+
+-- an order list by itself: 2 and 3 before 4
+abbrev pub formTests : ℕ → ℕ → List ℕ → List Test
+formTests n marks order =
+    (outside 1 n || markPast n marks, 2)
+    ∷ (ltb (length order) n, 3)
+    ∷ (not (isOrder (freeCount (marksOf n marks)) n order), 4)
+    ∷ []
 
 abbrev pub formTest : State → List ℕ → Test
 formTest st order = (not (isOrder (cols st) (st .n) order), 4)

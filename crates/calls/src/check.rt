@@ -1,7 +1,7 @@
 // Document 01, 'Refusal numbers, tested in this order', with 02, #108. Each answers the number of the first test that fails, 0 for none.
 use crate::state::State;
+use factor::check::is_empty;
 use factor::check::permutation;
-use factor::state::Held;
 use frozen::marks::free_count;
 use frozen::marks::mark_past;
 use leaves::sizes::least;
@@ -11,30 +11,7 @@ ghost use mathlib.Core.List.{[], _∷_};
 ghost use Prim.Native.Nat.{_≤_};
 ghost use lib.ListN.{length, drop};
 ghost use Rattle.leaves.specs.Tests.{firstOf};
-ghost use Rattle.factor.specs.State.{isEmpty, isNothing};
-ghost use Rattle.calls.specs.Tests.{markedRoomTests, continues, isOrder, markedSolveTests, freeTest};
-
-fn is_empty(h: Held) -> bool
-    ensures { λ r. ⌜ r ≡ isEmpty h ⌝ }
-{
-    match h {
-        Held::Empty => true,
-        Held::Nothing => false,
-        Held::Zero => false,
-        Held::Damped => false,
-    }
-}
-
-pub(crate) fn is_nothing(h: Held) -> bool
-    ensures { λ r. ⌜ r ≡ isNothing h ⌝ }
-{
-    match h {
-        Held::Empty => false,
-        Held::Nothing => true,
-        Held::Zero => false,
-        Held::Damped => false,
-    }
-}
+ghost use Rattle.calls.specs.Tests.{markedRoomTests, continues, isOrder, formTests, markedSolveTests, freeTest};
 
 pub(crate) fn room(st: State, store: usize, shortest: usize) -> u8
     ensures { λ r. ⌜ r ≡ firstOf (markedRoomTests st store shortest) ⌝ }
@@ -82,6 +59,30 @@ fn is_order(free: usize, n: usize, order: &[usize]) -> bool
         }
     }
     goes_on(free, &order[..n])
+}
+
+// Whether an order list is one of its form.
+//
+// n: the number of columns. marks: as in a state. order: its first n are read.
+// Answers 2 for n outside 1 to 16 or a mark past n, 3 for fewer than n places, 4 where the first are no permutation of the free columns or the
+// others do not continue the count, else 0.
+pub fn form(n: usize, marks: u16, order: &[usize]) -> u8
+    ensures { λ r. ⌜ r ≡ firstOf (formTests n marks (now (order .entry))) ⌝ }
+{
+    if outside(1, n) {
+        return 2;
+    }
+    if mark_past(n, marks) {
+        return 2;
+    }
+    if order.len() < n {
+        return 3;
+    }
+    if is_order(free_count(n, marks), n, order) {
+        0
+    } else {
+        4
+    }
 }
 
 pub(crate) fn ordered(st: State, store: usize, shortest: usize, order: &[usize]) -> u8

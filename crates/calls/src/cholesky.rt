@@ -1,6 +1,5 @@
 // Document 01, 'Lent room', with 02, #108: the held calls (`CholeskyFactor`). Each stands once, on a store that is only read; the call on a
 // lent store is that, and work cleared.
-use crate::check::is_nothing;
 use crate::check::ordered;
 use crate::check::room;
 use crate::check::some_free;
@@ -15,6 +14,7 @@ use crate::state::Told;
 use crate::state::marked;
 use crate::state::reduced;
 use crate::state::whole;
+use factor::check::is_nothing;
 use frozen::marks::free_count;
 use leaves::reply::Done;
 use leaves::sizes::least;

@@ -30,14 +30,14 @@ use Rattle.demands.proofs.FrozenHistories.{frozen-any-lent}
 use Rattle.demands.proofs.FrozenFactored.{free, small, is-spread, small-store, spread-state, front-length, first-order}
 
 -- what two factorings have in common
-record Common (n : ℕ) (g h : MarkedFactored) : Type 0 where
-  size : g .state .n ≡ n
-  state : g .state ≡ h .state
-  filled : isEmpty (g .state .held) ≡ false
-  contents : SameContents (whole (g .state)) (g .store) (h .store)
-  left-long : n ≤ length (g .order)
-  right-long : n ≤ length (h .order)
-  same-order : take n (g .order) ≡ take n (h .order)
+pub record Common (n : ℕ) (g h : MarkedFactored) : Type 0 where
+  pub size : g .state .n ≡ n
+  pub state : g .state ≡ h .state
+  pub filled : isEmpty (g .state .held) ≡ false
+  pub contents : SameContents (whole (g .state)) (g .store) (h .store)
+  pub left-long : n ≤ length (g .order)
+  pub right-long : n ≤ length (h .order)
+  pub same-order : take n (g .order) ≡ take n (h .order)
 
 -- two stores that differ in their surplus alone
 surplus-same : (m n : ℕ) (front a b : List Float) → length front ≡ storeNeed n → SameContents (stateOf m n held.Nothing) (front ++ a) (front ++ b)
@@ -103,7 +103,7 @@ module _ (m n marks : ℕ) (jacobian residuals s t : List Float) (o p : List ℕ
       subst (λ (z : MarkedFactored). Common n z other) (sym i) (subst (λ (z : MarkedFactored). Common n (factoredAs plain-one) z) (sym j)
       (plain-common (sym (ap (λ (z : MarkedFactored). z .reply) i) ∙ x) (sym (ap (λ (z : MarkedFactored). z .reply) j) ∙ y)))
 
-  common : {f g : Ranges} → one .reply ≡ answered f → other .reply ≡ answered g → Common n one other
+  pub common : {f g : Ranges} → one .reply ≡ answered f → other .reply ≡ answered g → Common n one other
   common {f} {g} x y = by (eqb marks 0) refl
     where
       by : (z : Bool) → eqb marks 0 ≡ z → Common n one other

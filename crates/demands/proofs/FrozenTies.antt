@@ -1,5 +1,6 @@
--- What the code of each public call with marks, a reader's too, and of factoring with marks may leave, by its own contract (`Post` is what the source's
--- `ensures` says), is what `performMarked` gives, or `markedFactoring`: so the theorems on these are theorems on the code. Assumes nothing.
+-- What the code of each public call with marks, a reader's too, of factoring with marks, of packing and of unpacking may leave, by its own contract (`Post` is what
+-- the source's `ensures` says), is what `performMarked` gives, `markedFactoring`, `performStep` or `unpackCall`: so the theorems on these are theorems on the code.
+-- Assumes nothing.
 use Prim.Native.Nat.{ℕ}
 use mathlib.Core.Path.{_≡_, ap}
 use mathlib.Core.Bool.{Bool}
@@ -28,6 +29,7 @@ use Rattle.measures.specs.Rescale.{Scaled}
 use Rattle.search.specs.Answers.{foundOf}
 use Rattle.search.specs.Search.{Flagged}
 use Rattle.calls.specs.Outcome as calls
+use Rattle.calls.specs.State.{whole}
 use Rattle.calls.specs.Factoring.{markedFactored, markedFactoring}
 use Rattle.calls.specs.declared.state.FactorTold.{FactorTold}
 use Rattle.calls.specs.declared.state.Told.{Told}
@@ -90,9 +92,17 @@ use Rattle.reader.proofs.reader.solve as reader-solve
 use Rattle.reader.proofs.reader.mul_qt_b as reader-mul-qt-b
 use Rattle.reader.proofs.OneReader.{Says-new, Says-solve, Says-mul-qt-b}
 use Rattle.reader.specs.declared.reader.CholeskyFactor.{CholeskyFactor}
+use Rattle.packing.specs.Packing.{PutAway, putAway, packCall, unpackCall}
+use Rattle.packing.proofs.pack.pack.{signature as pack-signature}
+use Rattle.packing.proofs.pack.pack.Reads as pack-code
+use Rattle.packing.proofs.pack.pack.Kinds as pack-kinds
+use Rattle.packing.proofs.unpack.unpack.{signature as unpack-signature}
+use Rattle.packing.proofs.unpack.unpack.Reads as unpack-code
+use Rattle.packing.proofs.unpack.unpack.Kinds as unpack-kinds
 use Rattle.demands.specs.Calls as basic
 use Rattle.demands.specs.History.{base, search, AnyAnswer, of-base, found}
 use Rattle.demands.specs.Marked.{MarkedOutcome, outcomeOf, ofMarkedEnded, ofMarkedTold, performMarked}
+use Rattle.demands.specs.Putting.{StepAnswer, pack, packed, performStep}
 
 pub calls-solve-with-zero-diagonal-is : (κs : Lfts 3) (a : ArgsD solve-with-zero-diagonal-signature κs) (r : Told) (s : AtExit (endedOf 3 solve-with-zero-diagonal-kinds.ps solve-with-zero-diagonal-kinds.r) κs) → solve-with-zero-diagonal.Post κs a r s
     → outcomeOf (of-base (basic.done (doneOf (r .answer)))) (r .state) (now (s .1 .0)) (now (s .1 .1 .1 .0)) ≡ performMarked (base (basic.zero-solve (now (a .1 .1 .1 .0)))) (a .0) (now (a .1 .1 .0)) (now (a .1 .0))
@@ -215,3 +225,19 @@ pub calls-pivoted-qr-is : (κs : Lfts 5) (a : ArgsD pivoted-qr-signature κs) (r
     → markedFactored (rangedOf (r .answer)) (r .state) (now (s .1 .1 .1 .1 .1 .0)) (now (s .1 .1 .1 .1 .1 .1 .0)) (now (s .1 .1 .1 .1 .1 .1 .1 .0))
     ≡ markedFactoring (a .0) (a .1 .0) (a .1 .1 .0) (now (a .1 .1 .1 .0)) (now (a .1 .1 .1 .1 .0)) (now (a .1 .1 .1 .1 .1 .0)) (now (a .1 .1 .1 .1 .1 .1 .0)) (now (a .1 .1 .1 .1 .1 .1 .1 .0))
 calls-pivoted-qr-is κs a r s p = p
+
+-- ---- packing, which takes a state and is a step of a history that leaves the store; and unpacking, which begins one
+abbrev pub packedAs : PutAway → List Float → basic.OutcomeOf StepAnswer
+packedAs e s = record { answer = packed (e .reply) (e .numbers) (e .places); state = whole (e .state); store = s; out = [] }
+
+pub pack-is : (κs : Lfts 4) (a : ArgsD pack-signature κs) (r : Told) (s : AtExit (endedOf 4 pack-kinds.ps pack-kinds.r) κs) → pack-code.Post κs a r s
+    → (let left = putAway (doneOf (r .answer)) (r .state) (now (s .1 .1 .1 .0)) (now (s .1 .1 .1 .1 .0)) in
+    (left ≡ packCall (a .0) (now (a .1 .0)) (now (a .1 .1 .0)) (now (a .1 .1 .1 .0)) (now (a .1 .1 .1 .1 .0)))
+    × (packedAs left (now (a .1 .0)) ≡ performStep (a .0 .marks) (pack (now (a .1 .1 .1 .0)) (now (a .1 .1 .1 .1 .0))) (whole (a .0)) (now (a .1 .1 .0)) (now (a .1 .0))))
+unfolding performStep
+pack-is κs a r s p = (p, ap (λ (e : PutAway). packedAs e (now (a .1 .0))) p)
+
+pub unpack-is : (κs : Lfts 4) (a : ArgsD unpack-signature κs) (r : Told) (s : AtExit (endedOf 4 unpack-kinds.ps unpack-kinds.r) κs) → unpack-code.Post κs a r s
+    → putAway (doneOf (r .answer)) (r .state) (now (s .1 .1 .1 .0)) (now (s .1 .1 .1 .1 .0))
+    ≡ unpackCall (a .0) (now (a .1 .0)) (now (a .1 .1 .0)) (now (a .1 .1 .1 .0)) (now (a .1 .1 .1 .1 .0))
+unpack-is κs a r s p = p

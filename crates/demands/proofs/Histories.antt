@@ -18,10 +18,10 @@ kept-after : {r t u : Room} → Kept r t → Kept t u → Kept r u
 kept-after a b = record { upper = b .upper ∙ a .upper; qtb = b .qtb ∙ a .qtb; norms = b .norms ∙ a .norms; rest = b .rest ∙ a .rest }
 
 -- the left, the right, or both, after a call
-alike-left : {r t r′ : Room} → Alike r t → Kept r r′ → Alike r′ t
+pub alike-left : {r t r′ : Room} → Alike r t → Kept r r′ → Alike r′ t
 alike-left a k = record { upper = k .upper ∙ a .upper; qtb = k .qtb ∙ a .qtb; norms = k .norms ∙ a .norms }
 
-alike-right : {r t t′ : Room} → Alike r t → Kept t t′ → Alike r t′
+pub alike-right : {r t t′ : Room} → Alike r t → Kept t t′ → Alike r t′
 alike-right a k = record { upper = a .upper ∙ sym (k .upper); qtb = a .qtb ∙ sym (k .qtb); norms = a .norms ∙ sym (k .norms) }
 
 -- ---- two order lists with the same first n

@@ -43,7 +43,14 @@ pub mod FrozenBeside
 pub mod FrozenFactored
 pub mod FrozenFactoring
 pub mod FrozenAsFresh
+pub mod FrozenBoth
+pub mod SpreadRooms
+pub mod MadeRooms
+pub mod Unpackings
+pub mod Packings
 pub mod FrozenFresh
 pub mod FrozenWitnesses
 pub mod FrozenDemands
 pub mod AboveDemands
+pub mod PackingWitnesses
+pub mod PackingDemands

@@ -9,5 +9,6 @@ pub mod Workings
 pub mod Alike
 pub mod Marked
 pub mod Above
+pub mod Putting
 -- What only inner functions, laws and examples cite stands apart: nobody need believe it.
 pub mod inner

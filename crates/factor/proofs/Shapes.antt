@@ -31,12 +31,12 @@ uppers-tall m k (c ∷ cs) [] h i l t = absurd (omega arith)
 uppers-tall m k (c ∷ cs) (d ∷ ds) h zero l t = column-size m k c d t ∙ omega arith
 uppers-tall m k (c ∷ cs) (d ∷ ds) h (suc i) l t = uppers-tall m (suc k) cs ds (omega arith) i (le-of-suc-le-suc l) t ∙ omega arith
 
-lower-wide : (n : ℕ) → length (noLower n) ≡ n
+pub lower-wide : (n : ℕ) → length (noLower n) ≡ n
 unfolding noLower
 lower-wide zero = refl
 lower-wide (suc n) = ap suc (lower-wide n)
 
-lower-tall : (n k : ℕ) → k < n → length (getD (noLower n) k []) ≡ n - suc k
+pub lower-tall : (n k : ℕ) → k < n → length (getD (noLower n) k []) ≡ n - suc k
 unfolding noLower
 lower-tall zero k h = absurd (not-suc-le-zero h)
 lower-tall (suc n) zero h = length-replicate n plusZero ∙ omega arith

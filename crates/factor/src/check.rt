@@ -14,7 +14,8 @@ ghost use Rattle.factor.specs.State.{isEmpty, isNothing, stateOf};
 ghost use Rattle.factor.specs.Tests.{sizeTests, roomTests, permutationTests, isPermutation, solveTests};
 ghost use Rattle.factor.specs.Factoring.{factorTests};
 
-fn is_empty(h: Held) -> bool
+// Whether there is no problem. Refuses nothing.
+pub fn is_empty(h: Held) -> bool
     ensures { λ r. ⌜ r ≡ isEmpty h ⌝ }
 {
     match h {
@@ -25,7 +26,8 @@ fn is_empty(h: Held) -> bool
     }
 }
 
-pub(crate) fn is_nothing(h: Held) -> bool
+// Whether no solve is held. Refuses nothing.
+pub fn is_nothing(h: Held) -> bool
     ensures { λ r. ⌜ r ≡ isNothing h ⌝ }
 {
     match h {

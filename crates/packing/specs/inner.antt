@@ -1,0 +1,2 @@
+-- Names for what no public contract cites.
+pub mod Opened
