@@ -2,8 +2,8 @@
 use crate::print;
 use crate::room;
 use crate::room::Scene;
+use crate::room::moved;
 use crate::stage;
-use crate::stage::moved;
 use lines::part::within;
 
 // The place in the chunk; how many bytes of the line have come; whether there is more to read.
@@ -94,7 +94,7 @@ fn some(line: &mut [u8], p: Spot, text: &mut [u8]) -> Spot {
 
 // Nothing says that the input ends, so the turns are counted down from a number that no run uses up.
 pub(crate) fn all(line: &mut [u8], text: &mut [u8]) {
-    let scene = room::bare(0);
+    let scene = room::nothing(0);
     let mut p = Spot {
         next: 0,
         fill: 0,

@@ -2,6 +2,7 @@
 use crate::reply::After;
 use crate::reply::Extra;
 use crate::reply::Reply;
+use crate::room::Packed;
 use crate::room::Scene;
 use crate::room::places_within;
 use calls::state::State;
@@ -167,4 +168,18 @@ pub(crate) fn item(a: After, p: Scene, text: &mut [u8]) -> usize {
     let scaling = a.scaling;
     let k = extra(more, scaling, a.len, text, m);
     rooms(p, text, k)
+}
+
+// What a packing or an unpacking answered, the packed room, and the rooms.
+pub(crate) fn packing(a: After, b: Packed, p: Scene, text: &mut [u8]) -> usize {
+    let reply = a.reply;
+    let room = b.room;
+    let places = b.places;
+    let r = doubles_within(&room, b.len);
+    let q = places_within(&places, b.count);
+    let n = answer(reply, text, p.at);
+    let m = put::bytes(b"\n", text, n);
+    let c = row_of_doubles(b"room", &room[..r], text, m);
+    let d = row_of_numbers(b"places", &places[..q], text, c);
+    rooms(p, text, d)
 }

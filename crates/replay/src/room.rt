@@ -11,6 +11,31 @@ pub(crate) struct Lent {
     pub(crate) out: usize,
 }
 
+// A lent problem while the calls have another: document 02, #107. Of the store the first len are lent, of the order list the first count.
+pub(crate) struct Aside {
+    pub(crate) store: [f64; 384],
+    pub(crate) order: [usize; 32],
+    pub(crate) len: usize,
+    pub(crate) count: usize,
+    pub(crate) state: State,
+}
+
+// A packed room, of which the first len and the first count are lent.
+pub(crate) struct Packed {
+    pub(crate) room: [f64; 192],
+    pub(crate) places: [usize; 32],
+    pub(crate) len: usize,
+    pub(crate) count: usize,
+}
+
+pub(crate) struct Away {
+    pub(crate) one: Aside,
+    pub(crate) two: Aside,
+    pub(crate) first: Packed,
+    pub(crate) second: Packed,
+    pub(crate) third: Packed,
+}
+
 // The rooms, whose first parts are lent; the state; and the place after the text that is not written out yet. It goes from function to
 // function by value: a call that is lent many slices at once takes the proof check long.
 pub(crate) struct Scene {
@@ -20,6 +45,7 @@ pub(crate) struct Scene {
     pub(crate) out: [f64; 32],
     pub(crate) lent: Lent,
     pub(crate) state: State,
+    pub(crate) away: Away,
     pub(crate) at: usize,
 }
 
@@ -36,7 +62,12 @@ pub(crate) fn store() -> [f64; 384] {
     [0.0; 384]
 }
 
-fn order() -> [usize; 32] {
+// 168 doubles are packed of 16 columns.
+pub(crate) fn packed_room() -> [f64; 192] {
+    [0.0; 192]
+}
+
+pub(crate) fn places() -> [usize; 32] {
     [0; 32]
 }
 
@@ -89,10 +120,58 @@ pub(crate) fn empty() -> State {
     }
 }
 
-// Nothing is lent.
-pub(crate) fn bare(at: usize) -> Scene {
+fn no_problem() -> Aside {
     let store = store();
-    let order = order();
+    let order = places();
+    let state = empty();
+    Aside {
+        store: store,
+        order: order,
+        len: 0,
+        count: 0,
+        state: state,
+    }
+}
+
+fn no_packed() -> Packed {
+    let room = packed_room();
+    let places = places();
+    Packed {
+        room: room,
+        places: places,
+        len: 0,
+        count: 0,
+    }
+}
+
+fn none_away() -> Away {
+    let none = no_problem();
+    let bare = no_packed();
+    Away {
+        one: none,
+        two: none,
+        first: bare,
+        second: bare,
+        third: bare,
+    }
+}
+
+// The same rooms and state, with the text at another place.
+pub(crate) fn moved(p: Scene, at: usize) -> Scene {
+    let mut q = p;
+    q.at = at;
+    q
+}
+
+// Nothing is lent, put aside or packed.
+pub(crate) fn nothing(at: usize) -> Scene {
+    bare(none_away(), at)
+}
+
+// Nothing is lent.
+pub(crate) fn bare(away: Away, at: usize) -> Scene {
+    let store = store();
+    let order = places();
     let bench = bench();
     let out = out();
     let none = Lent {
@@ -109,6 +188,7 @@ pub(crate) fn bare(at: usize) -> Scene {
         out: out,
         lent: none,
         state: state,
+        away: away,
         at: at,
     }
 }

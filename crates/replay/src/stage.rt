@@ -1,6 +1,7 @@
 // One line of a script: rooms are lent, a case ends, or an item is played on the parts of the program's rooms that are lent.
 use crate::item;
 use crate::junk;
+use crate::pack;
 use crate::print;
 use crate::reply::After;
 use crate::room::Lent;
@@ -8,18 +9,12 @@ use crate::room::Scene;
 use crate::room::bare;
 use crate::room::empty;
 use crate::room::fits;
+use crate::room::moved;
 use crate::room::places_within;
 use lines::part::doubles_within;
 use lines::scan::byte;
 use lines::scan::word;
 use text::put;
-
-// The same rooms and state, with the text at another place.
-pub(crate) fn moved(p: Scene, at: usize) -> Scene {
-    let mut q = p;
-    q.at = at;
-    q
-}
 
 // The rooms with other lengths lent, full of junk in the oracle's order: the store, the bench, the output, the order list.
 fn soiled(p: Scene, lent: Lent, seed: u64) -> Scene {
@@ -27,6 +22,7 @@ fn soiled(p: Scene, lent: Lent, seed: u64) -> Scene {
     let mut order = p.order;
     let mut bench = p.bench;
     let mut out = p.out;
+    let away = p.away;
     let one = junk::doubles(&mut store, lent.store, seed);
     let two = junk::doubles(&mut bench, lent.bench, one);
     let three = junk::doubles(&mut out, lent.out, two);
@@ -39,6 +35,7 @@ fn soiled(p: Scene, lent: Lent, seed: u64) -> Scene {
         out: out,
         lent: lent,
         state: state,
+        away: away,
         at: p.at,
     }
 }
@@ -50,8 +47,9 @@ fn lend(s: &[u8], p: Scene, text: &mut [u8]) -> Scene {
     let c = word(s, b.next);
     let d = word(s, c.next);
     let seed = word(s, d.next);
+    let away = p.away;
     if !seed.good {
-        return bare(print::unplayed(false, text, p.at));
+        return bare(away, print::unplayed(false, text, p.at));
     }
     let lent = Lent {
         store: a.value as usize,
@@ -62,7 +60,7 @@ fn lend(s: &[u8], p: Scene, text: &mut [u8]) -> Scene {
     if fits(lent) {
         return soiled(p, lent, seed.value);
     }
-    bare(print::unplayed(true, text, p.at))
+    bare(away, print::unplayed(true, text, p.at))
 }
 
 // What an item left in the rooms, and what it answered.
@@ -78,6 +76,7 @@ fn played(s: &[u8], p: Scene) -> Left {
     let mut order = p.order;
     let mut bench = p.bench;
     let mut out = p.out;
+    let away = p.away;
     let k = doubles_within(&store, lent.store);
     let o = places_within(&order, lent.order);
     let b = doubles_within(&bench, lent.bench);
@@ -98,6 +97,7 @@ fn played(s: &[u8], p: Scene) -> Left {
         out: out,
         lent: lent,
         state: state,
+        away: away,
         at: p.at,
     };
     Left {
@@ -113,6 +113,9 @@ pub(crate) fn line(s: &[u8], p: Scene, text: &mut [u8]) -> Scene {
     }
     if op == b'.' {
         return moved(p, put::bytes(b".\n", text, p.at));
+    }
+    if pack::is_of(op) {
+        return pack::line(s, op, p, text);
     }
     let q = played(s, p);
     let left = q.scene;

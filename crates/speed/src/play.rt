@@ -1,4 +1,5 @@
 // One problem after the other, all in the same rooms.
+use crate::away::put_away;
 use crate::make::fill;
 use crate::room;
 use calls::state::State;
@@ -34,7 +35,7 @@ fn product(a: usize, b: usize) -> usize {
     a * b
 }
 
-fn at(v: &[f64], i: usize) -> f64 {
+pub(crate) fn at(v: &[f64], i: usize) -> f64 {
     if i < v.len() { v[i] } else { 0.0 }
 }
 
@@ -176,6 +177,9 @@ fn factored(
         bench,
     );
     let x = corner(t.n, store);
+    if 6 < t.mode {
+        return x + put_away(t.mode, told.state, store, order);
+    }
     x + further(t.mode, told.state, store, order, diag, step)
 }
 

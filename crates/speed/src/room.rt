@@ -24,6 +24,10 @@ pub(crate) fn vector() -> [f64; 16] {
     [0.0; 16]
 }
 
+pub(crate) fn packed() -> [f64; 168] {
+    [0.0; 168]
+}
+
 pub(crate) fn line() -> [u8; 17] {
     [10; 17]
 }

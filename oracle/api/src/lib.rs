@@ -205,6 +205,25 @@ pub trait Engine {
     ) -> (Result<(Found, Ranges), u8>, State);
     fn determined(&self, state: State, store: &mut [f64]) -> (Result<usize, u8>, State);
     fn is_non_singular(&self, state: State, store: &mut [f64]) -> (Result<bool, u8>, State);
+    /// Puts a factored problem away (02, #107): "the upper triangle, qt_b and column norms go into n(n+1)/2 + 2n doubles, the
+    /// order into n places". Store and order list are only read.
+    fn pack(
+        &self,
+        state: State,
+        store: &[f64],
+        order: &[usize],
+        room: &mut [f64],
+        places: &mut [usize],
+    ) -> (Result<(), u8>, State);
+    /// Brings it back as after factoring. Neither store nor order list is read.
+    fn unpack(
+        &self,
+        state: State,
+        room: &[f64],
+        places: &[usize],
+        store: &mut [f64],
+        order: &mut [usize],
+    ) -> (Result<(), u8>, State);
     /// What `fitstep` prints for a sheet.
     fn sheet(&self, bytes: &[u8]) -> String;
 }

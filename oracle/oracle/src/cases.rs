@@ -6,7 +6,7 @@ use crate::pool::Pool;
 use crate::random::Random;
 use crate::script::Item;
 use crate::wanted;
-use crate::{make_calls, make_frozen, make_sheets};
+use crate::{make_away, make_calls, make_sheets};
 
 #[derive(Clone, Copy, PartialEq, Eq, Debug)]
 pub enum Kind {
@@ -21,9 +21,9 @@ pub type Draw = fn(&mut Random, &Pool) -> Vec<Item>;
 impl Kind {
     fn draw(self) -> Draw {
         match self {
-            Kind::Calls => make_calls::sequence,
+            Kind::Calls => make_away::calls,
             Kind::Factorings => make_calls::factoring_alone,
-            Kind::Frozen => make_frozen::sequence,
+            Kind::Frozen => make_away::frozen,
         }
     }
 

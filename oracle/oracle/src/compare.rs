@@ -1,6 +1,7 @@
 //! Both workings on the same cases, every answer, state and room bit for bit.
 
 use crate::above::as_the_gradient;
+use crate::away::as_packed;
 use crate::cases::{self, Kind};
 use crate::coverage::Coverage;
 use crate::engines::{PLAIN, SHOWN};
@@ -11,7 +12,7 @@ use crate::random::Random;
 use crate::rooms::Rooms;
 use crate::script::{self, Item};
 use crate::text::{bits, hex_of_bytes};
-use crate::{make_calls, make_sheets, sheets};
+use crate::{make_away, make_sheets, sheets};
 use api::{Run, Trial};
 
 /// How many cases of a kind were compared, and how many differ.
@@ -22,6 +23,11 @@ pub struct Tally {
     /// Questions held against the answered gradient of the same working, by either, and those not as it says (02, #105).
     pub questions: u64,
     pub against: u64,
+    /// Sequences that go over three problems.
+    pub in_turn: u64,
+    /// Unpackings held against what was packed, by either working, and those that brought back anything else (02, #107).
+    pub unpacked: u64,
+    pub other: u64,
     pub differ: u64,
 }
 
@@ -99,13 +105,20 @@ fn first_difference(items: &[Item], tally: &mut Tally, coverage: &mut Coverage) 
         let against = held.contains(&Some(false));
         tally.questions += u64::from(held != [None, None]);
         tally.against += u64::from(against);
+        let brought = [
+            as_packed(&before.0, item, &shown, &a),
+            as_packed(&before.1, item, &plain, &b),
+        ];
+        let other = brought.contains(&Some(false));
+        tally.unpacked += u64::from(brought != [None, None]);
+        tally.other += u64::from(other);
         let same = shown.text() == plain.text() && a.same(&b) && same_run(&runs.0, &runs.1);
-        if !same || !same_norms(item) || against {
+        if !same || !same_norms(item) || against || other {
             let mut text = String::new();
             a.write(&shown, &mut text);
             b.write(&plain, &mut text);
             eprintln!(
-                "{text}{:?}\n{:?}\nas the gradient: {held:?}",
+                "{text}{:?}\n{:?}\nas the gradient: {held:?}\nas packed: {brought:?}",
                 runs.0, runs.1
             );
             return Some(k);
@@ -117,6 +130,8 @@ fn first_difference(items: &[Item], tally: &mut Tally, coverage: &mut Coverage) 
 
 fn sequence(items: &[Item], tally: &mut Tally, coverage: &mut Coverage) {
     tally.compared += 1;
+    let exchanges = |item: &Item| matches!(item, Item::Exchange(_));
+    tally.in_turn += u64::from(items.iter().any(exchanges));
     if let Some(last) = first_difference(items, tally, coverage) {
         tally.differ += 1;
         let text = script::text(&items[..=last]);
@@ -163,7 +178,7 @@ pub fn sheets_and_sequences(sheets: u64, sequences: u64, seed: u64) -> (Tally, T
     }
     for _ in 0..sequences {
         sequence(
-            &make_calls::sequence(&mut rng, &pool),
+            &make_away::calls(&mut rng, &pool),
             &mut of_sequences,
             &mut coverage,
         );

@@ -1,6 +1,7 @@
 //! What a set of cases covered, with counts.
 
 use crate::above_rows;
+use crate::away_rows;
 use crate::classes::{Asked, CLASSES};
 use crate::engines::Working;
 use crate::frozen_rows::{self, Marked};
@@ -32,6 +33,8 @@ pub fn name(item: &Item) -> &'static str {
         Item::Search { .. } => "search",
         Item::Determined => "determined",
         Item::NonSingular => "is_non_singular",
+        Item::Pack(_) => "pack",
+        Item::Unpack(_) => "unpack",
         _ => "no call",
     }
 }
@@ -143,6 +146,7 @@ impl Coverage {
             None => self.unmarked(engine, rooms, item, reply),
         }
         self.all(above_rows::of_call(engine, rooms, item, reply));
+        self.all(away_rows::of_call(rooms, item, reply));
     }
 
     fn unmarked(&mut self, engine: &dyn Working, rooms: &Rooms, item: &Item, reply: &Reply) {

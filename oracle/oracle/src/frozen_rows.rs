@@ -83,7 +83,10 @@ impl<'a> Marked<'a> {
 
     /// Why an order list is refused, which is why another test would let it pass.
     fn refused_list(&self) -> Vec<&'static str> {
-        let order = &self.rooms.order[..self.n];
+        let order = match self.item {
+            Item::Unpack(k) => &self.rooms.packed[*k].places[..self.n],
+            _ => &self.rooms.order[..self.n],
+        };
         let is_permutation = |of: &[usize]| (0..of.len()).all(|k| of.contains(&k));
         let (first, tail) = order.split_at(self.free);
         let continued = tail.iter().copied().eq(self.free..self.n);
@@ -104,6 +107,7 @@ impl<'a> Marked<'a> {
             (5, Item::Solve(_) | Item::Mul) if self.rooms.state.held == Held::Nothing => {
                 vec!["nothing held"]
             }
+            (6, Item::Unpack(_)) => Vec::new(),
             (6, _) if finite() => vec![FROZEN_NUMBER],
             (7, Item::Search { radius, lambda, .. }) if *radius > 0.0 && *lambda >= 0.0 => {
                 let zero = self.others_read()[..self.free].contains(&0.0);
@@ -215,7 +219,7 @@ fn of_answer(engine: &dyn Working, marked: &Marked, reply: &Reply) -> Vec<String
         }
         _ => {}
     }
-    if !matches!(marked.item, Item::Factor { .. }) {
+    if !matches!(marked.item, Item::Factor { .. } | Item::Unpack(_)) {
         let junk = marked.junk().into_iter().zip(JUNK);
         junk.filter(|(there, _)| *there)
             .for_each(|(_, name)| add(name));
@@ -246,7 +250,7 @@ fn wanted_of_refusals(call: &str, number: u8) -> Vec<String> {
         (2, _) => &[PAST],
         (4, _) => &[LISTS[0], LISTS[1], LISTS[2], NONE_FREE],
         (5, "held solve" | "held mul_qt_b") => &["nothing held", NONE_FREE],
-        (6, "gradient" | "above limit") => &[NONE_FREE],
+        (6, "gradient" | "above limit" | "unpack") => &[NONE_FREE],
         (6, _) => &[FROZEN_NUMBER, NONE_FREE],
         (7, "search") => &[FROZEN_ZERO, NONE_FREE],
         (3 | 7, _) => &[NONE_FREE],
@@ -266,6 +270,7 @@ fn wanted_of_answers(call: &str) -> Vec<String> {
         "scaling" => vec![&MODES, &JUNK],
         "search" => vec![&[SHORT, "trials above one"], &SHAPES, &stops, &JUNK],
         "is_non_singular" | "above limit" => vec![&SHAPES, &JUNK],
+        "unpack" => Vec::new(),
         _ => vec![&JUNK],
     };
     let what = what.concat();

@@ -129,6 +129,12 @@ fn compare(count: u64, seed: u64) -> Verdict {
     let questions = sequences.questions + frozen.questions;
     let against = sequences.against + frozen.against;
     println!("{questions} questions held against the same working's gradient, {against} differ");
+    let unpacked = sequences.unpacked + frozen.unpacked;
+    let other = sequences.other + frozen.other;
+    let in_turn = sequences.in_turn + frozen.in_turn;
+    println!(
+        "{unpacked} unpackings, in {in_turn} sequences over three problems, held against what was packed, {other} differ"
+    );
     print!("{}", coverage.text());
     let differ = leaves.differ + sheets.differ + sequences.differ + frozen.differ;
     let compared = leaves.compared + sheets.compared + sequences.compared + frozen.compared;
@@ -137,8 +143,8 @@ fn compare(count: u64, seed: u64) -> Verdict {
 }
 
 fn checksum(engine: &dyn Working, task: &speed::Task) -> Outcome {
-    if !(1..=128).contains(&task.m) || !(1..=16).contains(&task.n) || task.mode > 6 {
-        return Err("m is 1 to 128, n 1 to 16, the mode 0 to 6".into());
+    if !(1..=128).contains(&task.m) || !(1..=16).contains(&task.n) || task.mode > 8 {
+        return Err("m is 1 to 128, n 1 to 16, the mode 0 to 8".into());
     }
     let mut text = String::new();
     text::push_double(&mut text, speed::sum(engine, task));

@@ -41,6 +41,18 @@ pub struct Reply {
     pub answer: Result<Answer, u8>,
     /// The lent scaling after a scaling call.
     pub scaling: Option<Vec<f64>>,
+    /// The packed room and its places after a packing or an unpacking (02, #107).
+    pub packed: Option<(Vec<f64>, Vec<usize>)>,
+}
+
+impl From<Result<Answer, u8>> for Reply {
+    fn from(answer: Result<Answer, u8>) -> Reply {
+        Reply {
+            answer,
+            scaling: None,
+            packed: None,
+        }
+    }
 }
 
 /// Small, then large.
@@ -91,6 +103,13 @@ impl Reply {
         if let Some(scaling) = &self.scaling {
             out.push_str("scaling");
             push_doubles(out, scaling);
+            out.push('\n');
+        }
+        if let Some((room, places)) = &self.packed {
+            out.push_str("room");
+            push_doubles(out, room);
+            out.push_str("\nplaces");
+            push_numbers(out, places);
             out.push('\n');
         }
     }

@@ -1,10 +1,11 @@
 //! Lent rooms, and the items of a script played on them.
 
+use crate::away::{Aside, Packed};
 use crate::classes::Asked;
 use crate::engines::Working;
 use crate::random::STEP;
 use crate::replies::{Answer, Reply, Told};
-use crate::script::{Item, held_number};
+use crate::script::{ASIDE, Item, PACKED, held_number};
 use crate::text::{bits, canonical, push_doubles, push_numbers};
 use api::{EMPTY, Found, State};
 
@@ -15,20 +16,27 @@ pub struct Rooms {
     pub bench: Vec<f64>,
     pub out: Vec<f64>,
     pub state: State,
+    /// Whether the lent problem came out of a packed room, and only calls have changed it since (02, #107).
+    pub unpacked: bool,
+    pub aside: [Aside; ASIDE],
+    pub packed: [Packed; PACKED],
 }
 
 /// The counter whose bits are the junk: no call may come to rely on a clean room.
-struct Junk(u64);
+pub struct Junk(pub u64);
 
 impl Junk {
     fn next(&mut self) -> u64 {
         self.0 = self.0.wrapping_add(STEP);
         self.0
     }
-    fn doubles(&mut self, len: usize) -> Vec<f64> {
+    pub fn doubles(&mut self, len: usize) -> Vec<f64> {
         (0..len)
             .map(|_| canonical(f64::from_bits(self.next())))
             .collect()
+    }
+    pub fn places(&mut self, len: usize) -> Vec<usize> {
+        (0..len).map(|_| (self.next() % 32) as usize).collect()
     }
 }
 
@@ -51,8 +59,11 @@ impl Rooms {
             store: junk.doubles(store),
             bench: junk.doubles(bench),
             out: junk.doubles(out),
-            order: (0..order).map(|_| (junk.next() % 32) as usize).collect(),
+            order: junk.places(order),
             state: EMPTY,
+            unpacked: false,
+            aside: Default::default(),
+            packed: Default::default(),
         }
     }
 
@@ -92,20 +103,28 @@ impl Rooms {
                 out,
                 seed,
             } => {
-                *self = Rooms::lent(*store, *order, *bench, *out, *seed);
+                *self = Rooms {
+                    aside: std::mem::take(&mut self.aside),
+                    packed: std::mem::take(&mut self.packed),
+                    ..Rooms::lent(*store, *order, *bench, *out, *seed)
+                };
             }
             Item::State(state) => self.state = *state,
             Item::Order(k, v) => self.order[*k] = *v,
             Item::Store(k, x) => self.store[*k] = *x,
             Item::End => {}
+            Item::Exchange(_) | Item::Lend { .. } | Item::Packed(..) | Item::Place(..) => {
+                self.set_away(item);
+                return None;
+            }
+            Item::Pack(_) | Item::Unpack(_) => return Some(self.put_away(engine, item)),
             Item::Scale { .. } => return Some(self.scale(engine, item)),
             _ => {
-                return Some(Reply {
-                    answer: self.call(engine, item),
-                    scaling: None,
-                });
+                self.unpacked &= !matches!(item, Item::Factor { .. });
+                return Some(self.call(engine, item).into());
             }
         }
+        self.unpacked = false;
         None
     }
 
@@ -134,8 +153,8 @@ impl Rooms {
             None => Answer::with(Told::Done, ranges),
         });
         Reply {
-            answer,
             scaling: Some(lent),
+            ..answer.into()
         }
     }
 
@@ -146,6 +165,7 @@ impl Rooms {
             bench,
             out,
             state,
+            ..
         } = self;
         let done = |()| Told::Done.into();
         let double = |x| Told::Doubles(vec![x]);
@@ -254,6 +274,7 @@ impl Rooms {
             && same_bits(&self.store, &other.store)
             && same_bits(&self.bench, &other.bench)
             && same_bits(&self.out, &other.out)
+            && self.same_away(other)
     }
 }
 

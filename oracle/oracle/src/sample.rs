@@ -6,6 +6,7 @@ use crate::engines::PLAIN;
 use crate::make_calls::{bare_factoring, bare_sequence};
 use crate::random::Random;
 use crate::sample_above;
+use crate::sample_away;
 use crate::sample_frozen;
 use crate::sample_ranges;
 use crate::script::Item;
@@ -279,6 +280,7 @@ pub fn cases() -> Vec<Vec<Item>> {
         ranges,
         sample_frozen::cases(),
         sample_above::cases(),
+        sample_away::cases(),
     ]
     .concat()
 }

@@ -1,6 +1,7 @@
-//! Call scripts: one item a line, read and written.
+//! Call scripts: one item a line, read; `script_lines.rs` writes them.
 
-use crate::text::{Tokens, push_double, push_doubles, push_number};
+pub use crate::script_lines::{text, write};
+use crate::text::Tokens;
 use api::{Held, Mode, State};
 
 #[derive(Clone, Debug)]
@@ -47,8 +48,27 @@ pub enum Item {
     },
     Determined,
     NonSingular,
+    /// Exchanges the lent problem, its store, order list and state, with one of two that are put aside (02, #107).
+    Exchange(usize),
+    /// One of three packed rooms gets these lengths, filled with junk from the seed.
+    Lend {
+        packed: usize,
+        room: usize,
+        places: usize,
+        seed: u64,
+    },
+    /// Into one of the packed rooms, and out of it.
+    Pack(usize),
+    Unpack(usize),
+    /// Spoils a packed room: which one, the place, what is put there.
+    Packed(usize, usize, f64),
+    Place(usize, usize, usize),
     End,
 }
+
+/// How many problems are put aside, and how many packed rooms there are.
+pub const ASIDE: usize = 2;
+pub const PACKED: usize = 3;
 
 const MODES: [Mode; 4] = [
     Mode::FirstScaled,
@@ -66,6 +86,10 @@ fn choice<T: Copy>(of: [T; 4], k: usize) -> Result<T, String> {
 
 pub fn held_number(held: Held) -> u64 {
     HELD.iter().position(|&h| h == held).unwrap_or(0) as u64
+}
+
+pub fn mode_number(mode: Mode) -> usize {
+    MODES.iter().position(|m| *m == mode).unwrap_or(0)
 }
 
 pub fn mode_of(k: usize) -> Mode {
@@ -127,6 +151,23 @@ fn rooms(t: &mut Tokens) -> Result<Item, String> {
     })
 }
 
+fn below(t: &mut Tokens, count: usize) -> Result<usize, String> {
+    let k = t.number()?;
+    let there = (k < count).then_some(k);
+    there.ok_or_else(|| format!("not below {count}: {k}"))
+}
+
+fn lend(t: &mut Tokens) -> Result<Item, String> {
+    let packed = below(t, PACKED)?;
+    let (room, places) = (t.number()?, t.number()?);
+    Ok(Item::Lend {
+        packed,
+        room,
+        places,
+        seed: t.bits()?,
+    })
+}
+
 pub fn read(line: &str) -> Result<Item, String> {
     let mut t = Tokens::of(line);
     let item = match t.word()? {
@@ -154,123 +195,15 @@ pub fn read(line: &str) -> Result<Item, String> {
         },
         "P" => Item::Determined,
         "Q" => Item::NonSingular,
+        "X" => Item::Exchange(below(&mut t, ASIDE)?),
+        "J" => lend(&mut t)?,
+        "B" => Item::Pack(below(&mut t, PACKED)?),
+        "E" => Item::Unpack(below(&mut t, PACKED)?),
+        "V" => Item::Packed(below(&mut t, PACKED)?, t.number()?, t.double()?),
+        "Y" => Item::Place(below(&mut t, PACKED)?, t.number()?, t.number()?),
         "." => Item::End,
         other => return Err(format!("no such item: {other}")),
     };
     t.end()?;
     Ok(item)
-}
-
-struct Line<'a>(&'a mut String);
-
-impl Line<'_> {
-    fn begin(&mut self, letter: char) -> &mut Self {
-        self.0.push(letter);
-        self
-    }
-    fn number(&mut self, k: u64) -> &mut Self {
-        self.0.push(' ');
-        push_number(self.0, k);
-        self
-    }
-    fn numbers(&mut self, of: &[usize]) -> &mut Self {
-        for &k in of {
-            self.number(k as u64);
-        }
-        self
-    }
-    /// Nothing where there are none, so that what has no marks reads as it did before there were any.
-    fn marks(&mut self, marks: u16) -> &mut Self {
-        if marks != 0 {
-            self.number(u64::from(marks));
-        }
-        self
-    }
-    fn double(&mut self, x: f64) -> &mut Self {
-        self.0.push(' ');
-        push_double(self.0, x);
-        self
-    }
-    fn doubles(&mut self, v: &[f64]) -> &mut Self {
-        push_doubles(self.0, v);
-        self
-    }
-    fn numbered(&mut self, v: &[f64]) -> &mut Self {
-        self.number(v.len() as u64).doubles(v)
-    }
-}
-
-pub fn write(item: &Item, out: &mut String) {
-    let mut line = Line(out);
-    match item {
-        Item::Rooms {
-            store,
-            order,
-            bench,
-            out,
-            seed,
-        } => line
-            .begin('R')
-            .numbers(&[*store, *order, *bench, *out])
-            .number(*seed),
-        Item::Factor {
-            m,
-            n,
-            marks,
-            jacobian,
-            residuals,
-        } => line
-            .begin(if *marks == 0 { 'F' } else { 'K' })
-            .numbers(&[*m, *n])
-            .marks(*marks)
-            .numbers(&[jacobian.len(), residuals.len()])
-            .doubles(jacobian)
-            .doubles(residuals),
-        Item::State(s) => line
-            .begin('T')
-            .numbers(&[s.m, s.n])
-            .number(held_number(s.held))
-            .marks(s.marks),
-        Item::Order(k, v) => line.begin('O').numbers(&[*k, *v]),
-        Item::Store(k, x) => line.begin('W').numbers(&[*k]).double(*x),
-        Item::Zero => line.begin('Z'),
-        Item::Damped(diag) => line.begin('D').numbered(diag),
-        Item::Solve(rhs) => line.begin('S').numbered(rhs),
-        Item::Mul => line.begin('M'),
-        Item::Gradient(x) => line.begin('G').double(*x),
-        Item::Above { b_norm, limit } => line.begin('A').double(*b_norm).double(*limit),
-        Item::Norm(x) => line.begin('N').numbered(x),
-        Item::Scale {
-            mode,
-            diag,
-            x,
-            step_bound,
-        } => {
-            let mode = MODES.iter().position(|m| m == mode).unwrap_or(0);
-            line.begin('U')
-                .numbers(&[mode, diag.len(), x.len()])
-                .doubles(diag)
-                .doubles(x)
-                .double(*step_bound)
-        }
-        Item::Search {
-            diag,
-            radius,
-            lambda,
-        } => line
-            .begin('L')
-            .numbered(diag)
-            .double(*radius)
-            .double(*lambda),
-        Item::Determined => line.begin('P'),
-        Item::NonSingular => line.begin('Q'),
-        Item::End => line.begin('.'),
-    };
-    out.push('\n');
-}
-
-pub fn text(items: &[Item]) -> String {
-    let mut out = String::new();
-    items.iter().for_each(|item| write(item, &mut out));
-    out
 }

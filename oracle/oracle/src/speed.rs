@@ -1,5 +1,6 @@
 //! What the program `speed` prints: the same problems, the same calls, the same sum. As there, a refused solve leaves the step as it was.
 
+use crate::away::needed;
 use crate::engines::Working;
 use api::State;
 
@@ -27,6 +28,8 @@ struct Rooms {
     order: Vec<usize>,
     diag: Vec<f64>,
     step: Vec<f64>,
+    room: Vec<f64>,
+    places: Vec<usize>,
 }
 
 impl Rooms {
@@ -51,10 +54,32 @@ impl Rooms {
         f64::from(u8::from(yes == Ok(true)))
     }
 
+    /// Packed into a room of its own, and in mode 8 unpacked: R's second column's first entry, or qt_b where there is one
+    /// column (02, #107).
+    fn put_away(&mut self, engine: &dyn Working, state: State, mode: u64) -> f64 {
+        let n = state.n;
+        let Rooms {
+            store,
+            order,
+            room,
+            places,
+            ..
+        } = self;
+        let (_, state) = engine.pack(state, store, order, room, places);
+        if mode == 7 {
+            return room[1];
+        }
+        let (_, _) = engine.unpack(state, room, places, store, order);
+        store[n]
+    }
+
     fn further(&mut self, engine: &dyn Working, state: State, mode: u64) -> f64 {
         let n = state.n;
         if mode == 1 {
             return 0.0;
+        }
+        if mode > 6 {
+            return self.put_away(engine, state, mode);
         }
         if mode > 4 {
             return self.asked(engine, state, mode);
@@ -100,6 +125,8 @@ pub fn sum(engine: &dyn Working, task: &Task) -> f64 {
         order: vec![0; n],
         diag: vec![0.0; n],
         step: vec![0.0; n],
+        room: vec![0.0; needed(n)],
+        places: vec![0; n],
     };
     let mut sum = 0.0;
     for _ in 0..calls {

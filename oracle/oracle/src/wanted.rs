@@ -1,12 +1,13 @@
 //! What a set of cases must cover.
 
 use crate::above_rows;
+use crate::away_rows;
 use crate::classes::CLASSES;
 use crate::frozen_rows;
 use crate::seen;
 
 /// Every refusal that each call can give, by document 01's table.
-pub const REFUSALS: [(&str, &[u8]); 12] = [
+pub const REFUSALS: [(&str, &[u8]); 14] = [
     ("factor", &[2, 3, 6, 8]),
     ("zero solve", &[2, 3, 4, 5, 8]),
     ("damped solve", &[2, 3, 4, 5, 6, 8]),
@@ -19,6 +20,8 @@ pub const REFUSALS: [(&str, &[u8]); 12] = [
     ("search", &[2, 3, 4, 5, 6, 7, 8]),
     ("determined", &[2, 3, 5]),
     ("is_non_singular", &[2, 3, 5]),
+    ("pack", &[2, 3, 4, 5]),
+    ("unpack", &[2, 3, 4, 5, 6]),
 ];
 
 /// The scaling's.
@@ -108,14 +111,23 @@ pub fn wanted_of_factorings() -> Vec<String> {
     [answers_of_factorings(), seen::wanted_of_factorings()].concat()
 }
 
-/// What the cases with frozen columns show (02, #108), the question among them (#105).
+/// What the cases with frozen columns show (02, #108), the question (#105) and packing (#107) among them.
 pub fn wanted_of_frozen() -> Vec<String> {
-    [frozen_rows::wanted(), above_rows::wanted_with_marks()].concat()
+    let above = above_rows::wanted_with_marks();
+    let away = away_rows::wanted_with_marks();
+    [frozen_rows::wanted(), above, away].concat()
 }
 
 pub fn wanted_of_calls() -> Vec<String> {
-    let above = above_rows::wanted();
-    [wanted_but_ranges(), above, wanted_ranges()].concat()
+    let (above, away) = (above_rows::wanted(), away_rows::wanted());
+    [wanted_but_ranges(), above, away, wanted_ranges()].concat()
+}
+
+/// What is wanted of packing and unpacking (02, #107), without marks and with them.
+pub fn wanted_away() -> Vec<String> {
+    let all = [wanted_of_calls(), wanted_of_frozen()].concat();
+    let of_packing = |row: &String| row.contains("pack ") || row.contains("after an unpacking");
+    all.into_iter().filter(of_packing).collect()
 }
 
 /// What is wanted of the question (02, #105), without marks and with them.

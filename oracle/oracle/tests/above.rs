@@ -120,6 +120,7 @@ fn lent(norms: [f64; 2]) -> Rooms {
             held: Held::Nothing,
             marks: 0,
         },
+        ..Rooms::none()
     }
 }
 

@@ -9,7 +9,7 @@ use oracle::random::Random;
 use oracle::rooms::Rooms;
 use oracle::sheets::Fields;
 use oracle::wanted::{wanted_of_calls, wanted_of_frozen, wanted_of_sheets};
-use oracle::{make_calls, make_sheets, script};
+use oracle::{make_away, make_sheets, script};
 
 #[test]
 fn leaves_agree() {
@@ -25,6 +25,7 @@ fn sheets_and_sequences_agree() {
     assert_eq!((sequences.compared, sequences.differ), (1000, 0));
     assert!(sequences.calls > 5000);
     assert!(sequences.questions > 300 && sequences.against == 0);
+    assert!(sequences.unpacked > 100 && sequences.other == 0);
 }
 
 /// 02, #108: a third of these has no mark.
@@ -34,6 +35,7 @@ fn frozen_sequences_agree_and_cover() {
     let tally = compare::frozen(3000, 1, &mut coverage);
     assert_eq!((tally.compared, tally.differ), (3000, 0));
     assert!(tally.questions > 1000 && tally.against == 0);
+    assert!(tally.unpacked > 300 && tally.other == 0);
     assert_eq!(coverage.missing(&wanted_of_frozen()), Vec::<String>::new());
 }
 
@@ -53,7 +55,7 @@ fn calls_cover() {
     let pool = Pool::hunt(4);
     let (mut rng, mut coverage) = (Random::new(4), Coverage::default());
     for _ in 0..6000 {
-        coverage.sequence(PLAIN, &make_calls::sequence(&mut rng, &pool));
+        coverage.sequence(PLAIN, &make_away::calls(&mut rng, &pool));
     }
     assert_eq!(coverage.missing(&wanted_of_calls()), Vec::<String>::new());
 }

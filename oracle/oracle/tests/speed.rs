@@ -33,7 +33,7 @@ fn stored_checksum() {
 #[test]
 fn both_workings() {
     for (m, n) in [(1, 1), (8, 2), (3, 5), (16, 4), (64, 8)] {
-        for mode in 0..=6 {
+        for mode in 0..=8 {
             let task = Task {
                 m,
                 n,

@@ -9,6 +9,7 @@ mod frozen;
 mod gradient;
 mod leaves;
 mod measures;
+mod packing;
 mod residuals;
 mod room;
 mod root;
@@ -192,6 +193,26 @@ impl Engine for Plain {
     }
     fn is_non_singular(&self, state: State, store: &mut [f64]) -> (Result<bool, u8>, State) {
         measures::is_non_singular(state, store)
+    }
+    fn pack(
+        &self,
+        state: State,
+        store: &[f64],
+        order: &[usize],
+        room: &mut [f64],
+        places: &mut [usize],
+    ) -> (Result<(), u8>, State) {
+        packing::pack(state, store, order, room, places)
+    }
+    fn unpack(
+        &self,
+        state: State,
+        room: &[f64],
+        places: &[usize],
+        store: &mut [f64],
+        order: &mut [usize],
+    ) -> (Result<(), u8>, State) {
+        packing::unpack(state, room, places, store, order)
     }
     fn sheet(&self, bytes: &[u8]) -> String {
         sheet::sheet(bytes)

@@ -63,6 +63,36 @@ impl Problem {
         measure
     }
 
+    /// R's columns down to the diagonal, qt_b, the column norms (02, #107).
+    pub fn packed(&self) -> Vec<f64> {
+        let columns = 0..self.qt_b.as_slice().len();
+        let triangle = columns.flat_map(|j| (0..=j).map(move |i| self.upper_r[(i, j)]));
+        let vectors = self.qt_b.iter().chain(self.column_norms.iter());
+        triangle.chain(vectors.copied()).collect()
+    }
+
+    /// The problem of which these numbers are `packed`: nothing below R, no L.
+    pub fn unpacked(room: &Room, packed: &[f64], order: &[usize]) -> Problem {
+        let (m, n) = (room.m, room.n);
+        let (triangle, vectors) = packed.split_at(n * (n + 1) / 2);
+        let (qt_b, norms) = vectors.split_at(n);
+        let mut upper_r = OMatrix::zeros_generic(Dyn(m.max(n)), Dyn(n));
+        for j in 0..n {
+            for i in 0..=j {
+                upper_r[(i, j)] = triangle[j * (j + 1) / 2 + i];
+            }
+        }
+        LinearLeastSquaresDiagonalProblem {
+            qt_b: vector(qt_b),
+            upper_r,
+            l_diag: OVector::zeros_generic(Dyn(n), U1::from_usize(1)),
+            permutation: vector(order),
+            column_norms: vector(norms),
+            work: OVector::zeros_generic(Dyn(n), U1::from_usize(1)),
+            m: Dyn(m),
+        }
+    }
+
     pub fn order(&self) -> &[usize] {
         self.permutation.as_slice()
     }

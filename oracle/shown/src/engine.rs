@@ -4,7 +4,7 @@ use crate::factoring::{self, unordered};
 use crate::qr::doors::{Problem, vector};
 use crate::room::{Room, all_finite, finite, unless};
 use crate::searching::{self, Question};
-use crate::{Shown, above, recorder, scaling, sheet};
+use crate::{Shown, above, packing, recorder, scaling, sheet};
 use api::{Engine, Found, Held, Mode, Ranges, Start, State};
 
 /// The tests of a solve, without those of its numbers.
@@ -281,6 +281,37 @@ impl Engine for Shown {
 
     fn is_non_singular(&self, state: State, store: &mut [f64]) -> (Result<bool, u8>, State) {
         (factoring::is_non_singular(state, store), state)
+    }
+
+    fn pack(
+        &self,
+        state: State,
+        store: &[f64],
+        order: &[usize],
+        room: &mut [f64],
+        places: &mut [usize],
+    ) -> (Result<(), u8>, State) {
+        (packing::pack(state, store, order, room, places), state)
+    }
+
+    fn unpack(
+        &self,
+        state: State,
+        room: &[f64],
+        places: &[usize],
+        store: &mut [f64],
+        order: &mut [usize],
+    ) -> (Result<(), u8>, State) {
+        match packing::unpack(state, room, places, store, order) {
+            Ok(()) => (
+                Ok(()),
+                State {
+                    held: Held::Nothing,
+                    ..state
+                },
+            ),
+            refused => (refused, state),
+        }
     }
 
     fn sheet(&self, bytes: &[u8]) -> String {

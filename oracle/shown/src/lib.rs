@@ -8,6 +8,7 @@ mod engine;
 mod factoring;
 mod frozen;
 mod leaves;
+mod packing;
 pub mod published;
 mod recorder;
 mod room;

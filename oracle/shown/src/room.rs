@@ -61,6 +61,11 @@ impl Room {
         self.work().end
     }
 
+    /// "n(n+1)/2 + 2n doubles" (02, #107).
+    pub fn packed(&self) -> usize {
+        self.n * (self.n + 1) / 2 + 2 * self.n
+    }
+
     pub fn bench(&self) -> usize {
         self.m * self.n + self.m
     }

@@ -11,8 +11,8 @@ Inv-loop line₀ text₀ p₀ turns₀ line text p turns = (length line ≡ leng
 abbrev μ-loop : tie.MeasureT-loop
 μ-loop line₀ text₀ p₀ turns₀ line text p turns = turns
 
-bare-requires : tie.Need-bare-requires Inv-loop μ-loop
-bare-requires c κs = search needs
+nothing-requires : tie.Need-nothing-requires Inv-loop μ-loop
+nothing-requires c κs = search needs
 
 loop-holds : tie.Need-loop-holds Inv-loop μ-loop
 loop-holds c = search needs
@@ -53,7 +53,7 @@ all-spec =
     (tie.spec
     Inv-loop
     μ-loop
-    bare-requires
+    nothing-requires
     loop-holds
     same-length
     same-length-2
