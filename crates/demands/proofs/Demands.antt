@@ -101,8 +101,7 @@ pub demand-1-answered : (c : Call) (st : State) (order : List ℕ) (store : List
     → (numberOf (perform c st order store .answer) ≡ 0) ↔ (NoneHold (testsOf c st order store) × Stands c st order store)
 demand-1-answered = table.answered-otherwise
 
--- Work is +0 after every call that passes all checks before 8. (Packing, which takes a state with marks and only reads the store, leaves it as it is:
--- `demand-3-pack-changes-nothing` in `proofs/PackingDemands.antt`.)
+-- Work is +0 after every call that passes all checks before 8. (Packing, which only reads the store, leaves it: `proofs/PackingDemands.antt`.)
 pub demand-1-work : (c : Call) (st : State) (order : List ℕ) (store : List Float) → NoneHold (testsOf c st order store) → load (st .n) (perform c st order store .store) .work ≡ zeros (st .n)
 demand-1-work = table.work-rests
 
