@@ -1,7 +1,7 @@
 //! Cases by kind, count and seed: what `make` prints is what `cover` counts.
 
 use crate::coverage::Coverage;
-use crate::engines::Working;
+use crate::engines::{PLAIN, Working};
 use crate::pool::Pool;
 use crate::random::Random;
 use crate::script::Item;
@@ -44,6 +44,36 @@ pub fn drawn(draw: Draw, count: u64, seed: u64) -> impl Iterator<Item = Vec<Item
     let pool = Pool::hunt(seed);
     let mut rng = Random::new(seed);
     (0..count).map(move |_| draw(&mut rng, &pool))
+}
+
+/// Every call prints the whole rooms: whether there are more numbers in store and bench.
+pub fn is_longer(items: &[Item], most: usize) -> bool {
+    items
+        .iter()
+        .any(|item| matches!(item, Item::Rooms { store, bench, .. } if store + bench > most))
+}
+
+/// Of the drawn cases that are not long those that show a wanted row which none before them has shown, `fixed` among those.
+pub fn first_shown(
+    drawn: impl Iterator<Item = Vec<Item>>,
+    wanted: &[String],
+    fixed: &[Vec<Item>],
+    most: usize,
+) -> Vec<Vec<Item>> {
+    let mut shown = Coverage::default();
+    fixed.iter().for_each(|items| shown.sequence(PLAIN, items));
+    drawn
+        .filter(|items| {
+            let mut own = Coverage::default();
+            own.sequence(PLAIN, items);
+            let new = |label: &String| own.count(label) > 0 && shown.count(label) == 0;
+            let kept = !is_longer(items, most) && wanted.iter().any(new);
+            if kept {
+                shown.sequence(PLAIN, items);
+            }
+            kept
+        })
+        .collect()
 }
 
 pub fn sheets(count: u64, seed: u64) -> impl Iterator<Item = Vec<u8>> {

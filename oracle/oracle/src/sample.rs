@@ -1,6 +1,6 @@
 //! The sample that the gate replays where there is no Rust: fixed cases, then cases thinned from those of `make`.
 
-use crate::cases::drawn;
+use crate::cases::{drawn, is_longer};
 use crate::coverage::Coverage;
 use crate::engines::PLAIN;
 use crate::make_calls::{bare_factoring, bare_sequence};
@@ -20,7 +20,7 @@ const WITH: usize = 300;
 const FEW: u64 = 3;
 const DRAWN: u64 = 4000;
 /// Every call prints the whole rooms, so of the drawn cases with more numbers in store and bench only so many are kept.
-const LONG: usize = 120;
+pub const LONG: usize = 120;
 const LONG_KEPT: usize = 2;
 
 pub fn case(m: usize, n: usize, jacobian: &[f64], residuals: &[f64], calls: &[Item]) -> Vec<Item> {
@@ -214,10 +214,8 @@ fn near() -> Vec<Vec<Item>> {
     ]
 }
 
-pub fn is_long(items: &[Item]) -> bool {
-    items
-        .iter()
-        .any(|item| matches!(item, Item::Rooms { store, bench, .. } if store + bench > LONG))
+fn is_long(items: &[Item]) -> bool {
+    is_longer(items, LONG)
 }
 
 /// Keeps what `keep` says, and of long cases the first few.

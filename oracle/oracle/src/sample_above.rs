@@ -1,10 +1,8 @@
 //! The part of the sample that is there for the question whether the gradient is above a limit (02, #105): what looks right
 //! and is not, then drawn cases that show what none before them has shown.
 
-use crate::cases::drawn;
-use crate::coverage::Coverage;
-use crate::engines::PLAIN;
-use crate::sample::{case, is_long, marked_case};
+use crate::cases::{drawn, first_shown};
+use crate::sample::{LONG, case, marked_case};
 use crate::script::Item;
 use crate::wanted::wanted_above;
 use crate::{make_calls, make_frozen};
@@ -134,21 +132,10 @@ fn widest() -> Vec<Vec<Item>> {
     vec![marked_case(16, 16, 1, &jacobian, &residuals, &calls)]
 }
 
-fn first_shown() -> Vec<Vec<Item>> {
-    let (wanted, mut shown) = (wanted_above(), Coverage::default());
-    drawn(make_calls::sequence, DRAWN, 105)
-        .chain(drawn(make_frozen::sequence, DRAWN, 105))
-        .filter(|items| {
-            let mut own = Coverage::default();
-            own.sequence(PLAIN, items);
-            let new = |label: &String| own.count(label) > 0 && shown.count(label) == 0;
-            let kept = !is_long(items) && wanted.iter().any(new);
-            if kept {
-                shown.sequence(PLAIN, items);
-            }
-            kept
-        })
-        .collect()
+fn drawn_cases() -> Vec<Vec<Item>> {
+    let drawn =
+        drawn(make_calls::sequence, DRAWN, 105).chain(drawn(make_frozen::sequence, DRAWN, 105));
+    first_shown(drawn, &wanted_above(), &[], LONG)
 }
 
 pub fn cases() -> Vec<Vec<Item>> {
@@ -160,5 +147,5 @@ pub fn cases() -> Vec<Vec<Item>> {
         widest(),
     ]
     .concat();
-    [fixed, first_shown()].concat()
+    [fixed, drawn_cases()].concat()
 }

@@ -2,9 +2,7 @@
 //! before them has shown.
 
 use crate::away::needed;
-use crate::cases::drawn;
-use crate::coverage::Coverage;
-use crate::engines::PLAIN;
+use crate::cases::{drawn, first_shown};
 use crate::make_away;
 use crate::sample::{case, marked_case, search};
 use crate::script::Item;
@@ -13,7 +11,7 @@ use api::{Held, State};
 
 const DRAWN: u64 = 6000;
 /// Every call prints the whole rooms: of the drawn cases those with more numbers in store and bench are left out.
-const LONG: usize = 60;
+const MOST: usize = 60;
 
 fn lend(packed: usize, room: usize, places: usize) -> Item {
     Item::Lend {
@@ -257,29 +255,6 @@ fn marked() -> Vec<Vec<Item>> {
     ]
 }
 
-fn is_long(items: &[Item]) -> bool {
-    items
-        .iter()
-        .any(|item| matches!(item, Item::Rooms { store, bench, .. } if store + bench > LONG))
-}
-
-fn first_shown(fixed: &[Vec<Item>]) -> Vec<Vec<Item>> {
-    let (wanted, mut shown) = (wanted_away(), Coverage::default());
-    fixed.iter().for_each(|items| shown.sequence(PLAIN, items));
-    drawn(make_away::alone, DRAWN, 107)
-        .filter(|items| {
-            let mut own = Coverage::default();
-            own.sequence(PLAIN, items);
-            let new = |label: &String| own.count(label) > 0 && shown.count(label) == 0;
-            let kept = !is_long(items) && wanted.iter().any(new);
-            if kept {
-                shown.sequence(PLAIN, items);
-            }
-            kept
-        })
-        .collect()
-}
-
 pub fn cases() -> Vec<Vec<Item>> {
     let fixed = [
         over_what_stands(),
@@ -291,6 +266,7 @@ pub fn cases() -> Vec<Vec<Item>> {
         marked(),
     ]
     .concat();
-    let drawn = first_shown(&fixed);
+    let drawn = drawn(make_away::alone, DRAWN, 107);
+    let drawn = first_shown(drawn, &wanted_away(), &fixed, MOST);
     [fixed, drawn].concat()
 }

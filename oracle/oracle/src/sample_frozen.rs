@@ -1,11 +1,9 @@
 //! The part of the sample that is there for frozen columns (02, #108): what looks right and is not, then drawn cases that show
 //! what none before them has shown.
 
-use crate::cases::drawn;
-use crate::coverage::Coverage;
-use crate::engines::PLAIN;
+use crate::cases::{drawn, first_shown};
 use crate::make_frozen;
-use crate::sample::{is_long, marked_case, search};
+use crate::sample::{LONG, marked_case, search};
 use crate::script::{Item, mode_of};
 use crate::wanted::wanted_of_frozen;
 
@@ -83,22 +81,11 @@ fn none_free() -> Vec<Vec<Item>> {
     ]
 }
 
-fn first_shown() -> Vec<Vec<Item>> {
-    let (wanted, mut shown) = (wanted_of_frozen(), Coverage::default());
-    drawn(make_frozen::bare_sequence, DRAWN, 108)
-        .filter(|items| {
-            let mut own = Coverage::default();
-            own.sequence(PLAIN, items);
-            let new = |label: &String| own.count(label) > 0 && shown.count(label) == 0;
-            let kept = !is_long(items) && wanted.iter().any(new);
-            if kept {
-                shown.sequence(PLAIN, items);
-            }
-            kept
-        })
-        .collect()
+fn drawn_cases() -> Vec<Vec<Item>> {
+    let drawn = drawn(make_frozen::bare_sequence, DRAWN, 108);
+    first_shown(drawn, &wanted_of_frozen(), &[], LONG)
 }
 
 pub fn cases() -> Vec<Vec<Item>> {
-    [each_call(), lists(), widest(), none_free(), first_shown()].concat()
+    [each_call(), lists(), widest(), none_free(), drawn_cases()].concat()
 }
