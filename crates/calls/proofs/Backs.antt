@@ -22,7 +22,7 @@ use Rattle.calls.specs.declared.state.State.{State}
 use Rattle.calls.specs.State.{marked_held, marked, marks_in, cols, whole, without_frozen}
 use Rattle.calls.specs.Outcome.{marked_told, marked_ended, told_as, ended_as, narrowed_in, emptied_by, emptied_store}
 use Rattle.calls.specs.inner.Reducible.{Reducible}
-use Rattle.calls.proofs.Resting.{counted-few, counted-in, small-fits as room_fits, small-long as room_long}
+use Rattle.calls.proofs.Resting.{counted_few, counted_in, small_fits as room_fits, small_long as room_long}
 use Rattle.calls.proofs.Passed.{Ready}
 
 -- ---- with no mark: the call that knows none
@@ -41,38 +41,38 @@ fresh_taken (suc k) zero v h = absurd (not-suc-le-zero h)
 fresh_taken (suc k) (suc n) v h = ap (λ (l : List _). v ∷ l) (fresh_taken k n v (le_of_suc-le-suc h))
 
 module _ (st : State) (store : List Float) (shortest : ℕ) (h : Ready st store shortest) {free : ℕ} (f : free ≡ cols st) where
-  pub ready-reducible : Reducible st.n st.marks free store
-  ready-reducible = counted-in h f
+  pub ready_reducible : Reducible st.n st.marks free store
+  ready_reducible = counted_in h f
 
-  pub free-few : free ≤ 16
-  free-few = counted-few h f
+  pub free_few : free ≤ 16
+  free_few = counted_few h f
 
   -- an order list, or any other with an entry for each column
   pub first_fits : {A : Type 0} (xs : List A) → st.n ≤ length xs → free ≤ length xs
-  first_fits xs l = let a = ready-reducible.fits in omega arith
+  first_fits xs l = let a = ready_reducible.fits in omega arith
 
-  pub first-long : {A : Type 0} (xs : List A) → st.n ≤ length xs → length (take free xs) ≡ free
-  first-long xs l = length-take-le free xs (first_fits xs l)
+  pub first_long : {A : Type 0} (xs : List A) → st.n ≤ length xs → length (take free xs) ≡ free
+  first_long xs l = length-take-le free xs (first_fits xs l)
 
-  pub small-fits : {need : ℕ} (r : List Float) → need ≡ store_need free → r ≡ replicate 320 one → need ≤ length r
-  small-fits r e q = room_fits q e free-few
+  pub small_fits : {need : ℕ} (r : List Float) → need ≡ store_need free → r ≡ replicate 320 one → need ≤ length r
+  small_fits r e q = room_fits q e free_few
 
-  pub small-long : {need : ℕ} (r : List Float) → need ≡ store_need free → r ≡ replicate 320 one → length (take need r) ≡ need
-  small-long r e q = room_long q e free-few
+  pub small_long : {need : ℕ} (r : List Float) → need ≡ store_need free → r ≡ replicate 320 one → length (take need r) ≡ need
+  small_long r e q = room_long q e free_few
 
   pub step_fits : (r : List Float) → r ≡ replicate 16 plus_zero → free ≤ length r
-  step_fits r q = lent_fits free r q free-few
+  step_fits r q = lent_fits free r q free_few
 
   pub step_long : (r : List Float) → r ≡ replicate 16 plus_zero → length (take free r) ≡ free
-  step_long r q = lent_long free r q free-few
+  step_long r q = lent_long free r q free_few
 
-  pub step-zeros : (r : List Float) → r ≡ replicate 16 plus_zero → take free r ≡ zeros free
-  step-zeros r q = ap (λ (l : List Float). take free l) q ∙ fresh_taken free 16 plus_zero free-few
+  pub step_zeros : (r : List Float) → r ≡ replicate 16 plus_zero → take free r ≡ zeros free
+  step_zeros r q = ap (λ (l : List Float). take free l) q ∙ fresh_taken free 16 plus_zero free_few
 
   -- the order of the reduced problem, and the place of its answer
-  pub of-lent : {B : Type 0} (call : List ℕ → List Float → B) (order : List ℕ) (r : List Float) → r ≡ replicate 16 plus_zero
+  pub of_lent : {B : Type 0} (call : List ℕ → List Float → B) (order : List ℕ) (r : List Float) → r ≡ replicate 16 plus_zero
       → call (take free order) (take free r) ≡ call (take (cols st) order) (zeros (cols st))
-  of-lent call order r q = ap (λ (l : List Float). call (take free order) l) (step-zeros r q) ∙ ap (λ (k : ℕ). call (take k order) (zeros k)) f
+  of_lent call order r q = ap (λ (l : List Float). call (take free order) l) (step_zeros r q) ∙ ap (λ (k : ℕ). call (take k order) (zeros k)) f
 
   -- numbers that were gathered into the first places and came back as y, read from there
   pub gathered : (r : List Float) {y xs : List Float} → r ≡ replicate 16 plus_zero → length y ≡ length (take free r) → y ≡ xs → take free (y ++ drop free r) ≡ xs

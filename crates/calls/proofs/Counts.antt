@@ -20,17 +20,17 @@ use Rattle.calls.specs.Tests.{marked_room_tests, continues, is_order}
 
 -- ---- the count, by turns of the loop over the places
 module _ (k : ℕ) (order : List ℕ) where
-  pub count-stops : k < length order → (get_or order k 0 ≡ k → ⊥) → continues k (drop k order) ≡ false
+  pub count_stops : k < length order → (get_or order k 0 ≡ k → ⊥) → continues k (drop k order) ≡ false
   unfolding continues
-  count-stops h e = rw (drop-cons order k 0 h, ne_eqb (get_or order k 0) k e)
+  count_stops h e = rw (drop-cons order k 0 h, ne_eqb (get_or order k 0) k e)
 
-  pub count-goes : k < length order → get_or order k 0 ≡ k → continues k (drop k order) ≡ continues (k + 1) (drop (k + 1) order)
+  pub count_goes : k < length order → get_or order k 0 ≡ k → continues k (drop k order) ≡ continues (k + 1) (drop (k + 1) order)
   unfolding continues
-  count-goes h e = rw (drop-cons order k 0 h, eq-eqb (get_or order k 0) k e, add-one)
+  count_goes h e = rw (drop-cons order k 0 h, eq-eqb (get_or order k 0) k e, add-one)
 
-  pub count-ends : length order ≤ k → continues k (drop k order) ≡ true
+  pub count_ends : length order ≤ k → continues k (drop k order) ≡ true
   unfolding continues
-  count-ends h = rw (drop_of_length-le order {i = k} h)
+  count_ends h = rw (drop_of_length-le order {i = k} h)
 
 -- ---- the free columns among themselves
 four : first_of ((true, 4) ∷ []) ≡ 0 → ⊥
@@ -42,24 +42,24 @@ unfolding first_of
 none = refl
 
 module _ (free : ℕ) (order : List ℕ) where
-  pub none-permuted : free ≤ 0 → is_permutation free order ≡ true
+  pub none_permuted : free ≤ 0 → is_permutation free order ≡ true
   unfolding distinct_below
-  none-permuted h = let z : free ≡ 0 = omega arith in rw z
+  none_permuted h = let z : free ≡ 0 = omega arith in rw z
 
   module _ (p : 0 < free) (f : free ≤ 16) (l : free ≤ length order) where
-    last-test : first_of (permutation_tests free order) ≡ first_of ((not (is_permutation free order), 4) ∷ [])
+    last_test : first_of (permutation_tests free order) ≡ first_of ((not (is_permutation free order), 4) ∷ [])
     unfolding first_of
-    last-test = rw (within 1 free (record { rows_some = omega arith; rows_few = omega arith; cols_some = p; cols_few = f }), le-ltb (length order) free l)
+    last_test = rw (within 1 free (record { rows_some = omega arith; rows_few = omega arith; cols_some = p; cols_few = f }), le-ltb (length order) free l)
 
-    pub is-permuted : first_of (permutation_tests free order) ≡ 0 → is_permutation free order ≡ true
-    is-permuted e = by (is_permutation free order) (sym last-test ∙ e)
+    pub is_permuted : first_of (permutation_tests free order) ≡ 0 → is_permutation free order ≡ true
+    is_permuted e = by (is_permutation free order) (sym last_test ∙ e)
       where
         by : (b : Bool) → first_of ((not b, 4) ∷ []) ≡ 0 → b ≡ true
         by true h = refl
         by false h = absurd (four h)
 
-    pub not-permuted : (first_of (permutation_tests free order) ≡ 0 → ⊥) → is_permutation free order ≡ false
-    not-permuted e = by (is_permutation free order) (λ h. e (last-test ∙ h))
+    pub not_permuted : (first_of (permutation_tests free order) ≡ 0 → ⊥) → is_permutation free order ≡ false
+    not_permuted e = by (is_permutation free order) (λ h. e (last_test ∙ h))
       where
         by : (b : Bool) → (first_of ((not b, 4) ∷ []) ≡ 0 → ⊥) → b ≡ false
         by true h = absurd (h none)
@@ -70,8 +70,8 @@ module _ (free n : ℕ) (order : List ℕ) where
   pub order-refused : is_permutation free order ≡ false → false ≡ is_order free n order
   order-refused e = rw (e, is_order)
 
-  pub order-counted : {c : Bool} → is_permutation free order ≡ true → c ≡ continues free (drop free (take n order)) → c ≡ is_order free n order
-  order-counted e h = rw (e, is_order) h
+  pub order_counted : {c : Bool} → is_permutation free order ≡ true → c ≡ continues free (drop free (take n order)) → c ≡ is_order free n order
+  order_counted e h = rw (e, is_order) h
 
 -- what an order list is tested after: 2 and 3
 pub room_passed : (st : State) (store shortest : ℕ) → first_of (marked_room_tests st store shortest) ≡ 0 → (st.n ≤ 16) × (st.n ≤ shortest)

@@ -14,7 +14,7 @@ use Rattle.leaves.specs.Square.{zeros}
 use Rattle.leaves.specs.Tests.{Test, first_of, all_finite}
 use Rattle.leaves.proofs.Refusals.{stopped, went_to, past, test_met, passed_iff}
 use Rattle.leaves.proofs.Insides.{neither}
-use Rattle.frozen.specs.Frozen.{freeOf, merged}
+use Rattle.frozen.specs.Frozen.{free_of, merged}
 use Rattle.factor.specs.State.{store_need}
 use Rattle.factor.specs.Room.{load, lay, leaving}
 use Rattle.factor.specs.Solve.{padded}
@@ -28,8 +28,8 @@ use Rattle.calls.specs.State.{marked_held, marks_in, cols, whole, without_frozen
 use Rattle.calls.specs.Tests.{form_test, marked_solve_tests, free_test}
 use Rattle.calls.specs.Outcome.{MarkedEnded, marked_ended, ended_as, narrowed_in, widened, widened_by}
 use Rattle.calls.specs.Solves.{marked_damped}
-use Rattle.calls.proofs.Passed.{Ready, room-ready, by-no-mark, by-refusal, by-working}
-use Rattle.calls.proofs.Backs.{of-lent, gathered}
+use Rattle.calls.proofs.Passed.{Ready, room_ready, by_no_mark, by_refusal, by_working}
+use Rattle.calls.proofs.Backs.{of_lent, gathered}
 
 -- ---- 6 for the diagonal, then 9, after the tests of every solve
 module _ (st : State) (diag : List Float) (order : List ℕ) (s o : ℕ) {c j : ℕ} (e : c ≡ first_of (marked_solve_tests st s order j)) (m : j ≡ min (length diag) o) where
@@ -52,11 +52,11 @@ module _ (st : State) (diag : List Float) (order : List ℕ) (s o : ℕ) {c j : 
   pub damped-stopped : (c ≡ 0 → ⊥) → c ≡ first_of (tests ++ further)
   damped-stopped h = sym (stopped tests further c tested h)
 
-  pub damped-unfit : c ≡ 0 → all_finite (take st.n diag) ≡ false → 6 ≡ first_of (tests ++ further)
-  damped-unfit z b = went_to tests further refl tested z (sym (test_met (finite_test (whole st) diag) (free_test st ∷ []) (rw b)))
+  pub damped_unfit : c ≡ 0 → all_finite (take st.n diag) ≡ false → 6 ≡ first_of (tests ++ further)
+  damped_unfit z b = went_to tests further refl tested z (sym (test_met (finite_test (whole st) diag) (free_test st ∷ []) (rw b)))
 
-  pub damped-passed : {k : ℕ} → c ≡ 0 → all_finite (take st.n diag) ≡ true → k ≡ first_of (free_test st ∷ []) → k ≡ first_of (tests ++ further)
-  damped-passed z b h = went_to tests further refl tested z (past (finite_test (whole st) diag) (free_test st ∷ []) (rw b) h)
+  pub damped_passed : {k : ℕ} → c ≡ 0 → all_finite (take st.n diag) ≡ true → k ≡ first_of (free_test st ∷ []) → k ≡ first_of (tests ++ further)
+  damped_passed z b h = went_to tests further refl tested z (past (finite_test (whole st) diag) (free_test st ∷ []) (rw b) h)
 
 -- ---- a lent problem whose tests are passed, its free columns counted
 pub record Lent (st : State) (diag : List Float) (order : List ℕ) (store out : List Float) (free : ℕ) : Type 0 where
@@ -88,8 +88,8 @@ module _ (st : State) (diag : List Float) (order : List ℕ) (store out : List F
   abbrev shortest : ℕ
   shortest = min (length order) (min (length diag) (length out))
 
-  abbrev all-tests : List Test
-  all-tests = marked_solve_tests st (length store) order (min (length diag) (length out)) ++ (finite_test (whole st) diag ∷ free_test st ∷ [])
+  abbrev all_tests : List Test
+  all_tests = marked_solve_tests st (length store) order (min (length diag) (length out)) ++ (finite_test (whole st) diag ∷ free_test st ∷ [])
 
   abbrev without : MarkedEnded (Unit {0})
   without = ended_as st (unmarked.damped_call (whole st) diag order store out)
@@ -98,23 +98,23 @@ module _ (st : State) (diag : List Float) (order : List ℕ) (store out : List F
   working ds o x = widened_by st store out (unmarked.damped_call (without_frozen st) ds o (narrowed_in st store) x)
 
   abbrev worked : MarkedEnded (Unit {0})
-  worked = working (freeOf (marks_in st) diag) (take (cols st) order) (zeros (cols st))
+  worked = working (free_of (marks_in st) diag) (take (cols st) order) (zeros (cols st))
 
   abbrev refusal : ℕ → MarkedEnded (Unit {0})
   refusal k = marked_ended (refused k) st store out
 
   pub call-unmarked : {t : MarkedEnded (Unit {0})} → st.marks ≡ 0 → t ≡ without → t ≡ marked_damped st diag order store out
   unfolding marked_damped
-  call-unmarked m h = h ∙ by-no-mark st.marks all-tests without worked refusal m
+  call-unmarked m h = h ∙ by_no_mark st.marks all_tests without worked refusal m
 
-  module _ {c : ℕ} (e : c ≡ first_of all-tests) where
+  module _ {c : ℕ} (e : c ≡ first_of all_tests) where
     pub call-stopped : (st.marks ≡ 0 → ⊥) → (c ≡ 0 → ⊥) → refusal c ≡ marked_damped st diag order store out
     unfolding marked_damped
-    call-stopped m h = by-refusal st.marks all-tests without worked refusal m e h
+    call-stopped m h = by_refusal st.marks all_tests without worked refusal m e h
 
     module _ (z : c ≡ 0) where
       ready : Ready st store shortest
-      ready = room-ready st store shortest (form_test st order ∷ finite_test (whole st) diag ∷ []) refl (sym e ∙ z)
+      ready = room_ready st store shortest (form_test st order ∷ finite_test (whole st) diag ∷ []) refl (sym e ∙ z)
 
       pub passed : {free : ℕ} → free ≡ cols st → Lent st diag order store out free
       passed f =
@@ -123,10 +123,10 @@ module _ (st : State) (diag : List Float) (order : List ℕ) (store out : List F
 
       -- the diagonal that was gathered came back as w, in the first places of r
       pub call-worked : {free : ℕ} {r x w : List Float} {t : MarkedEnded (Unit {0})} → (st.marks ≡ 0 → ⊥) → free ≡ cols st → r ≡ replicate 16 plus_zero → x ≡ replicate 16 plus_zero
-          → length w ≡ length (take free r) → w ≡ freeOf (marks_in st) diag → t ≡ working (take free (w ++ drop free r)) (take free order) (take free x)
+          → length w ≡ length (take free r) → w ≡ free_of (marks_in st) diag → t ≡ working (take free (w ++ drop free r)) (take free order) (take free x)
           → t ≡ marked_damped st diag order store out
       unfolding marked_damped
       call-worked {free} {r} {x} {w} m f er ex l g h =
           h ∙ ap (λ (ds : List Float). working ds (take free order) (take free x)) (gathered st store shortest ready f r er l g)
-          ∙ of-lent st store shortest ready f (λ (o : List ℕ) (y : List Float). working (freeOf (marks_in st) diag) o y) order x ex
-          ∙ by-working st.marks all-tests without worked refusal m e z
+          ∙ of_lent st store shortest ready f (λ (o : List ℕ) (y : List Float). working (free_of (marks_in st) diag) o y) order x ex
+          ∙ by_working st.marks all_tests without worked refusal m e z

@@ -18,8 +18,8 @@ use Rattle.leaves.proofs.Refusals.{passed_iff, none_of_both}
 use Rattle.leaves.proofs.Insides.{neither, Inside, inside, within}
 use Rattle.leaves.proofs.Folds.{nonzero, copy_leaves}
 use Rattle.leaves.proofs.Overs.{append_nil}
-use Rattle.frozen.specs.Frozen.{marks_of, mark_past, free_count, freeColumns}
-use Rattle.frozen.proofs.Blocks.{columns-length, marks-length, columns-done}
+use Rattle.frozen.specs.Frozen.{marks_of, mark_past, free_count, free_columns}
+use Rattle.frozen.proofs.Blocks.{columns-length, marks-length, columns_done}
 use Rattle.frozen.proofs.Runs.{two_laid}
 use Rattle.frozen.proofs.Spreads.{second_long}
 use Rattle.frozen.proofs.Unmarked.{none_set, columns_whole}
@@ -60,26 +60,26 @@ lengths_passed m n marks j r s o b e = lengths_of m n marks j r s o b ((passed_i
 
 module _ (m n marks : ℕ) (jacobian residuals : List Float) (store order bench : ℕ) where
   -- the tests after 3
-  abbrev pub laterTests : List Test
-  laterTests = (not (all_finite (take (m * n) jacobian)), 6) ∷ (not (all_finite (take m residuals)), 6) ∷ (eqb (free_count (marks_of n marks)) 0, 9) ∷ []
+  abbrev pub later_tests : List Test
+  later_tests = (not (all_finite (take (m * n) jacobian)), 6) ∷ (not (all_finite (take m residuals)), 6) ∷ (eqb (free_count (marks_of n marks)) 0, 9) ∷ []
 
   module _ {c free : ℕ} (e : c ≡ first_of (marked_factor_tests m n marks jacobian residuals store order bench)) (z : c ≡ 0) (f : free ≡ free_count (marks_of n marks)) where
-    passed : NoneHold (length_tests m n marks (length jacobian) (length residuals) store order bench) × NoneHold laterTests
+    passed : NoneHold (length_tests m n marks (length jacobian) (length residuals) store order bench) × NoneHold later_tests
     passed =
-        none_of_both (length_tests m n marks (length jacobian) (length residuals) store order bench) laterTests
+        none_of_both (length_tests m n marks (length jacobian) (length residuals) store order bench) later_tests
         ((passed_iff (marked_factor_tests m n marks jacobian residuals store order bench) refl).0 (sym e ∙ z))
 
-    pub long-enough : Lengths m n (length jacobian) (length residuals) store order bench
-    long-enough = lengths_of m n marks (length jacobian) (length residuals) store order bench passed.0
+    pub long_enough : Lengths m n (length jacobian) (length residuals) store order bench
+    long_enough = lengths_of m n marks (length jacobian) (length residuals) store order bench passed.0
 
     pub factorable : Factorable m n marks free jacobian residuals
     factorable = record {
-      inside = long-enough.inside;
+      inside = long_enough.inside;
       counted = f;
       some = (let k = nonzero (free_count (marks_of n marks)) (eqb-false (free_count (marks_of n marks)) 0 passed.1.1.1.0) in omega arith);
       fits = (let k = free_count-fits n marks in omega arith);
-      jacobian_long = long-enough.jacobian_long;
-      residuals_long = long-enough.residuals_long;
+      jacobian_long = long_enough.jacobian_long;
+      residuals_long = long_enough.residuals_long;
       jacobian_finite = not-false (all_finite (take (m * n) jacobian)) passed.1.0;
       residuals_finite = not-false (all_finite (take m residuals)) passed.1.1.0;
     }
@@ -87,16 +87,16 @@ module _ (m n marks : ℕ) (jacobian residuals : List Float) (store order bench 
 -- ---- the free columns, gathered where there is room for them alone
 module _ (m n marks : ℕ) (jacobian bench : List Float) (j : m * n ≤ length jacobian) (l : length bench ≡ m * free_count (marks_of n marks)) where
   -- with no mark, as a copy of all
-  pub all-gathered : (y : List Float) {d : Reply (Unit {0})} → marks ≡ 0 → (d, y) ≡ copy (take (m * n) jacobian) bench → y ≡ freeColumns m (marks_of n marks) jacobian
-  all-gathered y z e =
+  pub all_gathered : (y : List Float) {d : Reply (Unit {0})} → marks ≡ 0 → (d, y) ≡ copy (take (m * n) jacobian) bench → y ≡ free_columns m (marks_of n marks) jacobian
+  all_gathered y z e =
       let f : m * free_count (marks_of n marks) ≡ m * n = ap (λ (x : ℕ). m * free_count (marks_of n x)) z ∙ ap (λ (k : ℕ). m * k) (none_set n) in
       let t : length (take (m * n) jacobian) ≡ length bench = length-take-le (m * n) jacobian j ∙ sym (l ∙ f) in
-      copy_leaves (take (m * n) jacobian) bench y t e ∙ sym (ap (λ (x : ℕ). freeColumns m (marks_of n x) jacobian) z ∙ columns_whole m n jacobian)
+      copy_leaves (take (m * n) jacobian) bench y t e ∙ sym (ap (λ (x : ℕ). free_columns m (marks_of n x) jacobian) z ∙ columns_whole m n jacobian)
 
-  pub free-gathered : (y : List Float) {d : Reply (Unit {0})} → outside m n ≡ false → (d, y) ≡ columns_call m n marks jacobian bench → y ≡ freeColumns m (marks_of n marks) jacobian
-  free-gathered y i e =
-      let g = freeColumns m (marks_of n marks) jacobian in
-      let done = columns-done m n marks jacobian bench i j g (omega arith) refl in
+  pub free_gathered : (y : List Float) {d : Reply (Unit {0})} → outside m n ≡ false → (d, y) ≡ columns_call m n marks jacobian bench → y ≡ free_columns m (marks_of n marks) jacobian
+  free_gathered y i e =
+      let g = free_columns m (marks_of n marks) jacobian in
+      let done = columns_done m n marks jacobian bench i j g (omega arith) refl in
       let none : drop (m * free_count (marks_of n marks)) bench ≡ [] = drop_of_length-le bench {i = m * free_count (marks_of n marks)} (omega arith) in
       ap (λ (x : Reply (Unit {0}) × List Float). x.1) (e ∙ sym done) ∙ (ap (λ (x : List Float). g ++ x) none ∙ append_nil g)
 
@@ -109,13 +109,13 @@ finite-split m k s h =
     let e : suc k * m ≡ m + k * m = suc-mul k m ∙ omega arith in
     finite-both (take m s) (take (k * m) (drop m s)) (sym (ap all_finite (take-add m (k * m) s)) ∙ (ap (λ (j : ℕ). all_finite (take j s)) (sym e) ∙ h))
 
-columns-finite : (m : ℕ) (ms : List Bool) (s : List Float) → all_finite (take (length ms * m) s) ≡ true → all_finite (freeColumns m ms s) ≡ true
-unfolding freeColumns all_finite
+columns-finite : (m : ℕ) (ms : List Bool) (s : List Float) → all_finite (take (length ms * m) s) ≡ true → all_finite (free_columns m ms s) ≡ true
+unfolding free_columns all_finite
 columns-finite m [] s h = refl
 columns-finite m (true ∷ ms) s h = columns-finite m ms (drop m s) (finite-split m (length ms) s h).1
 columns-finite m (false ∷ ms) s h =
     let t = finite-split m (length ms) s h in
-    finite-append (take m s) (freeColumns m ms (drop m s)) ∙ rw t.0 (columns-finite m ms (drop m s) t.1)
+    finite-append (take m s) (free_columns m ms (drop m s)) ∙ rw t.0 (columns-finite m ms (drop m s) t.1)
 
 -- ---- the reduced problem
 module _ (m n marks free : ℕ) (jacobian residuals : List Float) (r : Factorable m n marks free jacobian residuals) where
@@ -126,27 +126,27 @@ module _ (m n marks free : ℕ) (jacobian residuals : List Float) (r : Factorabl
       record { rows_some = i.rows_some; rows_few = i.rows_few; cols_some = r.some; cols_few = (let k = i.cols_few in omega arith) }
 
   -- its Jacobian within the lent one's
-  pub area-within : m * free ≤ m * n
-  area-within = mul-le-mul (le_refl m) r.fits
+  pub area_within : m * free ≤ m * n
+  area_within = mul-le-mul (le_refl m) r.fits
 
-  columns-here : length (marks_of n marks) * m ≡ m * n
-  columns-here = rw (marks-length n marks) (mul_comm n m)
+  columns_here : length (marks_of n marks) * m ≡ m * n
+  columns_here = rw (marks-length n marks) (mul_comm n m)
 
-  pub gathered-long : length (freeColumns m (marks_of n marks) jacobian) ≡ m * free
-  gathered-long =
-      let k = columns-here in
+  pub gathered_long : length (free_columns m (marks_of n marks) jacobian) ≡ m * free
+  gathered_long =
+      let k = columns_here in
       let j = r.jacobian_long in
       columns-length m (marks_of n marks) jacobian (omega arith) ∙ ap (λ (c : ℕ). m * c) (sym r.counted)
 
-  gathered-finite : all_finite (freeColumns m (marks_of n marks) jacobian) ≡ true
-  gathered-finite = columns-finite m (marks_of n marks) jacobian (ap (λ (k : ℕ). all_finite (take k jacobian)) columns-here ∙ r.jacobian_finite)
+  gathered_finite : all_finite (free_columns m (marks_of n marks) jacobian) ≡ true
+  gathered_finite = columns-finite m (marks_of n marks) jacobian (ap (λ (k : ℕ). all_finite (take k jacobian)) columns_here ∙ r.jacobian_finite)
 
   -- its own tests are passed
-  pub small-passed : (store order bench : ℕ) → store ≡ store_need free → order ≡ free → bench ≡ bench_need m free
-      → first_of (plain.factor_tests m free (freeColumns m (marks_of n marks) jacobian) residuals store order bench) ≡ 0
-  small-passed store order bench es eo eb =
-      let g = freeColumns m (marks_of n marks) jacobian in
-      let l = gathered-long in
+  pub small_passed : (store order bench : ℕ) → store ≡ store_need free → order ≡ free → bench ≡ bench_need m free
+      → first_of (plain.factor_tests m free (free_columns m (marks_of n marks) jacobian) residuals store order bench) ≡ 0
+  small_passed store order bench es eo eb =
+      let g = free_columns m (marks_of n marks) jacobian in
+      let l = gathered_long in
       let rr = r.residuals_long in
       let whole : take (m * free) g ≡ g = take_all (m * free) g (omega arith) in
       let three : (ltb (length g) (m * free) || ltb (length residuals) m || ltb store (store_need free) || ltb order free || ltb bench (bench_need m free)) ≡ false = rw (
@@ -156,19 +156,19 @@ module _ (m n marks free : ℕ) (jacobian residuals : List Float) (r : Factorabl
         le-ltb order free (omega arith),
         le-ltb bench (bench_need m free) (omega arith),
       ) refl in
-      let six : not (all_finite (take (m * free) g)) ≡ false = rw (whole, gathered-finite) refl in
+      let six : not (all_finite (take (m * free) g)) ≡ false = rw (whole, gathered_finite) refl in
       let more : not (all_finite (take m residuals)) ≡ false = rw r.residuals_finite refl in
       (passed_iff (plain.factor_tests m free g residuals store order bench) refl).1 (within m free small_inside, (three, (six, (more, tt))))
 
   -- the residuals behind the free columns, as they are gathered and copied
-  pub bench-filled : (b y z : List Float) {d : Reply (Unit {0})} → bench_need m free ≤ length b → y ≡ freeColumns m (marks_of n marks) jacobian
+  pub bench_filled : (b y z : List Float) {d : Reply (Unit {0})} → bench_need m free ≤ length b → y ≡ free_columns m (marks_of n marks) jacobian
       → (d, z) ≡ copy (take m residuals) (take (m * free + m - m * free) (drop (m * free) (y ++ drop (m * free) b)))
       → take (m * free) (y ++ drop (m * free) b) ++ (z ++ drop (m * free + m - m * free) (drop (m * free) (y ++ drop (m * free) b)))
-      ≡ freeColumns m (marks_of n marks) jacobian ++ (take m residuals ++ drop (bench_need m free) b)
-  bench-filled b y z l ey ez =
-      let ly : length y ≡ m * free = ap length ey ∙ gathered-long in
+      ≡ free_columns m (marks_of n marks) jacobian ++ (take m residuals ++ drop (bench_need m free) b)
+  bench_filled b y z l ey ez =
+      let ly : length y ≡ m * free = ap length ey ∙ gathered_long in
       let w : m * free + m - m * free ≡ m = omega arith in
       let lm : length (take m residuals) ≡ m = length-take-le m residuals r.residuals_long in
       let lp : length (take (m * free + m - m * free) (drop (m * free) (y ++ drop (m * free) b))) ≡ m = rw w (second_long (m * free) m y b ly l) in
       let c : z ≡ take m residuals = copy_leaves (take m residuals) _ z (lm ∙ sym lp) ez in
-      two_laid (m * free) (m * free + m) y z b ly (omega arith) ∙ rw (ey, c) (append_assoc (freeColumns m (marks_of n marks) jacobian) (take m residuals) (drop (bench_need m free) b))
+      two_laid (m * free) (m * free + m) y z b ly (omega arith) ∙ rw (ey, c) (append_assoc (free_columns m (marks_of n marks) jacobian) (take m residuals) (drop (bench_need m free) b))

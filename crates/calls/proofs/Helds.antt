@@ -14,7 +14,7 @@ use Rattle.leaves.specs.Reply.{Reply, answered, refused}
 use Rattle.leaves.specs.Tests.{Test, first_of}
 use Rattle.leaves.proofs.Insides.{neither}
 use Rattle.leaves.proofs.Refusals.{passed_iff}
-use Rattle.frozen.specs.Frozen.{freeOf}
+use Rattle.frozen.specs.Frozen.{free_of}
 use Rattle.factor.specs.State.{store_need}
 use Rattle.factor.specs.Tests.{held_test, finite_test}
 use Rattle.factor.specs.Solve.{padded}
@@ -26,8 +26,8 @@ use Rattle.calls.specs.State.{marks_in, cols, whole, without_frozen}
 use Rattle.calls.specs.Tests.{marked_room_tests, form_test, marked_solve_tests, free_test}
 use Rattle.calls.specs.Outcome.{marked_ended, ended_as, narrowed_in, rested_store, held_out, held_by}
 use Rattle.calls.specs.HeldCalls.{marked_solve, marked_mul, marked_read}
-use Rattle.calls.proofs.Backs.{step-zeros, gathered}
-use Rattle.calls.proofs.Passed.{Ready, room-ready, by-no-mark, by-refusal, by-working}
+use Rattle.calls.proofs.Backs.{step_zeros, gathered}
+use Rattle.calls.proofs.Passed.{Ready, room_ready, by_no_mark, by_refusal, by_working}
 
 -- ---- the tests before those of the held calls
 pub each_fits : (st : State) (store : ℕ) (order : List ℕ) (shortest : ℕ) → first_of (marked_solve_tests st store order shortest) ≡ 0 → st.n ≤ shortest
@@ -58,62 +58,62 @@ put-fits k r w h l = omega (arith, length-append w (drop k r), length-take-le k 
 
 -- ---- each call by its marks and its tests
 module _ (st : State) (order : List ℕ) (rhs store out : List Float) where
-  abbrev solve-ts : List Test
-  solve-ts = marked_solve_tests st (length store) order (min (length rhs) (length out)) ++ (held_test (whole st) ∷ finite_test (whole st) rhs ∷ free_test st ∷ [])
+  abbrev solve_ts : List Test
+  solve_ts = marked_solve_tests st (length store) order (min (length rhs) (length out)) ++ (held_test (whole st) ∷ finite_test (whole st) rhs ∷ free_test st ∷ [])
 
   abbrev asked : List ℕ → List Float → List Float → plain.Ended (Unit {0})
   asked o b x = unmarked.solve_call (without_frozen st) o b (narrowed_in st store) x
 
   pub solve-unmarked : st.marks ≡ 0 → ended_as st (unmarked.solve_call (whole st) order rhs store out) ≡ marked_solve st order rhs store out
   unfolding marked_solve
-  solve-unmarked m = by-no-mark st.marks solve-ts _ _ (λ (k : ℕ). marked_ended (refused k) st store out) m
+  solve-unmarked m = by_no_mark st.marks solve_ts _ _ (λ (k : ℕ). marked_ended (refused k) st store out) m
 
-  module _ {c : ℕ} (m : st.marks ≡ 0 → ⊥) (e : c ≡ first_of solve-ts) where
+  module _ {c : ℕ} (m : st.marks ≡ 0 → ⊥) (e : c ≡ first_of solve_ts) where
     pub solve-refused : (c ≡ 0 → ⊥) → marked_ended (refused c) st store out ≡ marked_solve st order rhs store out
     unfolding marked_solve
-    solve-refused h = by-refusal st.marks solve-ts _ _ (λ (k : ℕ). marked_ended (refused k) st store out) m e h
+    solve-refused h = by_refusal st.marks solve_ts _ _ (λ (k : ℕ). marked_ended (refused k) st store out) m e h
 
     module _ (z : c ≡ 0) where
       pub solve_ready : Ready st store (min (length order) (min (length rhs) (length out)))
-      solve_ready = room-ready st store (min (length order) (min (length rhs) (length out))) (form_test st order ∷ held_test (whole st) ∷ finite_test (whole st) rhs ∷ []) refl (sym e ∙ z)
+      solve_ready = room_ready st store (min (length order) (min (length rhs) (length out))) (form_test st order ∷ held_test (whole st) ∷ finite_test (whole st) rhs ∷ []) refl (sym e ∙ z)
 
       pub solve-worked : {free : ℕ} (r x : List Float) {w : List Float} → free ≡ cols st → r ≡ replicate 16 plus_zero → x ≡ replicate 16 plus_zero
-          → length w ≡ length (take free r) → w ≡ freeOf (marks_in st) rhs
+          → length w ≡ length (take free r) → w ≡ free_of (marks_in st) rhs
           → held_by st store out (asked (take free order) (take free (w ++ drop free r)) (take free x)) ≡ marked_solve st order rhs store out
       unfolding marked_solve
       solve-worked {free} r x {w} f p q l g =
           let shortest = min (length order) (min (length rhs) (length out)) in
-          rw (gathered st store shortest solve_ready f r p l g, step-zeros st store shortest solve_ready f x q, f)
-          (by-working st.marks solve-ts _ _ (λ (k : ℕ). marked_ended (refused k) st store out) m e z)
+          rw (gathered st store shortest solve_ready f r p l g, step_zeros st store shortest solve_ready f x q, f)
+          (by_working st.marks solve_ts _ _ (λ (k : ℕ). marked_ended (refused k) st store out) m e z)
 
       pub solve-rested : {free : ℕ} (r x w : List Float) {a : Reply (Unit {0})} {s o : List Float}
           → read a o ≡ marked_read (held_by st store out (asked (take free order) (take free (w ++ drop free r)) (take free x))) → s ≡ rested_store st store
-          → free ≡ cols st → r ≡ replicate 16 plus_zero → x ≡ replicate 16 plus_zero → length w ≡ length (take free r) → w ≡ freeOf (marks_in st) rhs
+          → free ≡ cols st → r ≡ replicate 16 plus_zero → x ≡ replicate 16 plus_zero → length w ≡ length (take free r) → w ≡ free_of (marks_in st) rhs
           → marked_ended a st s o ≡ marked_solve st order rhs store out
       solve-rested {free} r x w h t f p q l g =
           held-rested st store out (asked (take free order) (take free (w ++ drop free r)) (take free x)) h t ∙ solve-worked r x f p q l g
 
 module _ (st : State) (store out : List Float) where
-  abbrev mul-ts : List Test
-  mul-ts = marked_room_tests st (length store) (length out) ++ (held_test (whole st) ∷ free_test st ∷ [])
+  abbrev mul_ts : List Test
+  mul_ts = marked_room_tests st (length store) (length out) ++ (held_test (whole st) ∷ free_test st ∷ [])
 
   pub mul-unmarked : st.marks ≡ 0 → ended_as st (unmarked.mul_call (whole st) store out) ≡ marked_mul st store out
   unfolding marked_mul
-  mul-unmarked m = by-no-mark st.marks mul-ts _ _ (λ (k : ℕ). marked_ended (refused k) st store out) m
+  mul-unmarked m = by_no_mark st.marks mul_ts _ _ (λ (k : ℕ). marked_ended (refused k) st store out) m
 
-  module _ {c : ℕ} (m : st.marks ≡ 0 → ⊥) (e : c ≡ first_of mul-ts) where
+  module _ {c : ℕ} (m : st.marks ≡ 0 → ⊥) (e : c ≡ first_of mul_ts) where
     pub mul-refused : (c ≡ 0 → ⊥) → marked_ended (refused c) st store out ≡ marked_mul st store out
     unfolding marked_mul
-    mul-refused h = by-refusal st.marks mul-ts _ _ (λ (k : ℕ). marked_ended (refused k) st store out) m e h
+    mul-refused h = by_refusal st.marks mul_ts _ _ (λ (k : ℕ). marked_ended (refused k) st store out) m e h
 
     module _ (z : c ≡ 0) where
       pub mul_ready : Ready st store (length out)
-      mul_ready = room-ready st store (length out) (held_test (whole st) ∷ []) refl (sym e ∙ z)
+      mul_ready = room_ready st store (length out) (held_test (whole st) ∷ []) refl (sym e ∙ z)
 
       pub mul-worked : {free : ℕ} (x : List Float) → free ≡ cols st → x ≡ replicate 16 plus_zero
           → held_by st store out (unmarked.mul_call (without_frozen st) (narrowed_in st store) (take free x)) ≡ marked_mul st store out
       unfolding marked_mul
-      mul-worked x f q = rw (step-zeros st store (length out) mul_ready f x q, f) (by-working st.marks mul-ts _ _ (λ (k : ℕ). marked_ended (refused k) st store out) m e z)
+      mul-worked x f q = rw (step_zeros st store (length out) mul_ready f x q, f) (by_working st.marks mul_ts _ _ (λ (k : ℕ). marked_ended (refused k) st store out) m e z)
 
       pub mul-rested : {free : ℕ} (x : List Float) {a : Reply (Unit {0})} {s o : List Float}
           → read a o ≡ marked_read (held_by st store out (unmarked.mul_call (without_frozen st) (narrowed_in st store) (take free x))) → s ≡ rested_store st store

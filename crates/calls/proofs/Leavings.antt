@@ -14,9 +14,9 @@ use Rattle.leaves.specs.Square.{zeros}
 use Rattle.leaves.specs.Vector.{copy}
 use Rattle.leaves.proofs.Folds.{copy_leaves}
 use Rattle.leaves.proofs.Insides.{within}
-use Rattle.leaves.proofs.Splices.{lent, filled, drop-front}
+use Rattle.leaves.proofs.Splices.{lent, filled, drop_front}
 use Rattle.frozen.specs.Narrowed.{spread_out, spread_call}
-use Rattle.frozen.proofs.Spreads.{spread_out-length, spread-done}
+use Rattle.frozen.proofs.Spreads.{spread_out-length, spread_done}
 use Rattle.factor.specs.State.{store_need}
 use Rattle.factor.specs.Outcome.{written}
 use Rattle.leaves.proofs.Overs.{over, count-length, count_at}
@@ -26,21 +26,21 @@ abbrev pub counted : ℕ → List ℕ → List ℕ
 counted free o = take free o ++ count_from (length o - free) free
 
 module _ (free : ℕ) (o : List ℕ) (h : free ≤ length o) where
-  first-long : length (take free o) ≡ free
-  first-long = length-take-le free o h
+  first_long : length (take free o) ≡ free
+  first_long = length-take-le free o h
 
-  pub counted-long : length (counted free o) ≡ length o
-  counted-long =
-      let a = first-long in
+  pub counted_long : length (counted free o) ≡ length o
+  counted_long =
+      let a = first_long in
       let c = count-length (length o - free) free in
       length-append (take free o) (count_from (length o - free) free) ∙ omega arith
 
   pub counted_start : o ≡ over free (counted free o) o
-  counted_start = sym (rw (take_at (take free o) (count_from (length o - free) free) free first-long) (take-append-drop free o))
+  counted_start = sym (rw (take_at (take free o) (count_from (length o - free) free) free first_long) (take-append-drop free o))
 
-  pub counted-at : (k : ℕ) → free ≤ k → k < length o → get_or (counted free o) k 0 ≡ k
-  counted-at k p q =
-      let a = first-long in
+  pub counted_at : (k : ℕ) → free ≤ k → k < length o → get_or (counted free o) k 0 ≡ k
+  counted_at k p q =
+      let a = first_long in
       let e : k ≡ length (take free o) + (k - free) = omega arith in
       let t = get_or-append-add (take free o) (count_from (length o - free) free) (k - free) 0 in
       let c = count_at (length o - free) free (k - free) (omega arith) in
@@ -81,7 +81,7 @@ all_cleared p q b bench h e =
     let lq : length (zeros q) ≡ q = length-replicate q plus_zero in
     let s : p + (q - p) ≡ q = omega arith in
     let f : b ≡ zeros p ++ drop p bench = e ∙ rw lp refl in
-    let d : drop q (zeros p ++ drop p bench) ≡ drop q bench = rw (← s) (drop-front p (q - p) (zeros p) bench lp) in
+    let d : drop q (zeros p ++ drop p bench) ≡ drop q bench = rw (← s) (drop_front p (q - p) (zeros p) bench lp) in
     let w : zeros p ++ zeros (q - p) ≡ zeros q = replicate-append-replicate p (q - p) plus_zero ∙ ap zeros s in
     rw (f, take_at (zeros p) (drop p bench) p lp, d, lq) (sym (append_assoc (zeros p) (zeros (q - p)) (drop q bench)) ∙ ap (λ (l : List Float). l ++ drop q bench) w)
 
@@ -91,7 +91,7 @@ spread_leaves : (n free : ℕ) (small store y : List Float) {d : Reply (Unit {0}
 spread_leaves n free small store y p h k ls l e =
     let i = within 1 n (record { rows_some = omega arith; rows_few = omega arith; cols_some = omega arith; cols_few = k }) in
     let j = within 1 free (record { rows_some = omega arith; rows_few = omega arith; cols_some = p; cols_few = omega arith }) in
-    let done = spread-done n free small store i j h (omega arith) l in
+    let done = spread_done n free small store i j h (omega arith) l in
     let z : length (spread_out n free small) ≡ store_need n = spread_out-length n free small h (omega arith) in
     ap (λ (x : Reply (Unit {0}) × List Float). x.1) (e ∙ sym done) ∙ rw z refl
 

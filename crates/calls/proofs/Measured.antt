@@ -13,16 +13,16 @@ use Rattle.leaves.specs.Tests.{Test, first_of}
 use Rattle.leaves.specs.declared.norm.Ranges.{Ranges}
 use Rattle.leaves.proofs.Refusals.{numbered, passed_iff, stopped, went_to}
 use Rattle.leaves.proofs.Insides.{neither}
-use Rattle.frozen.specs.Frozen.{freeOf}
+use Rattle.frozen.specs.Frozen.{free_of}
 use Rattle.factor.specs.State.{store_need}
-use Rattle.factor.specs.Tests.{finite_test, finite_number, not_above, below}
+use Rattle.factor.specs.Tests.{finite_test, finite_not_nan, not_above, below}
 use Rattle.measures.specs.Measures as plain
 use Rattle.calls.specs.declared.state.State.{State}
 use Rattle.calls.specs.State.{marks_in, cols, whole, without_frozen}
 use Rattle.calls.specs.Tests.{marked_room_tests, form_test, marked_solve_tests, free_test}
 use Rattle.calls.specs.Outcome.{MarkedTold, narrowed_in, rested_by}
 use Rattle.calls.specs.Measures.{marked_above_tests}
-use Rattle.calls.proofs.Passed.{Ready, room-ready}
+use Rattle.calls.proofs.Passed.{Ready, room_ready}
 
 -- ---- a slice is read before it is known whether a column is free
 pub room_long : (st : State) (store k : ℕ) (us : List Test) → numbered us ≡ true → first_of (marked_room_tests st store k ++ us) ≡ 0 → st.n ≤ k
@@ -35,12 +35,12 @@ abbrev pub rank_tests : State → ℕ → List Test
 rank_tests st store = marked_room_tests st store st.n ++ (free_test st ∷ [])
 
 pub rank_ready : (st : State) (store : List Float) {c : ℕ} → c ≡ first_of (rank_tests st (length store)) → c ≡ 0 → Ready st store st.n
-rank_ready st store e z = room-ready st store st.n [] refl (sym e ∙ z)
+rank_ready st store e z = room_ready st store st.n [] refl (sym e ∙ z)
 
 -- ---- the gradient: the order list is the one slice that holds a number for each column
 abbrev pub gradient_tests : State → ℕ → List ℕ → Float → List Test
 gradient_tests st store order bnorm =
-    marked_room_tests st store (length order) ++ (form_test st order ∷ finite_number bnorm ∷ (not_above bnorm, 7) ∷ free_test st ∷ [])
+    marked_room_tests st store (length order) ++ (form_test st order ∷ finite_not_nan bnorm ∷ (not_above bnorm, 7) ∷ free_test st ∷ [])
 
 pub gradient_first : (st : State) (store : ℕ) (order : List ℕ) {c : ℕ} → c ≡ first_of (marked_solve_tests st store order (length order))
     → c ≡ first_of (marked_room_tests st store (length order) ++ (form_test st order ∷ []))
@@ -48,11 +48,11 @@ gradient_first st store order e = e ∙ rw (min-eq_left (le_refl (length order))
 
 pub gradient_ready : (st : State) (store : List Float) (order : List ℕ) (bnorm : Float) {c : ℕ} → c ≡ first_of (gradient_tests st (length store) order bnorm) → c ≡ 0
     → Ready st store (length order)
-gradient_ready st store order bnorm e z = room-ready st store (length order) (form_test st order ∷ finite_number bnorm ∷ (not_above bnorm, 7) ∷ []) refl (sym e ∙ z)
+gradient_ready st store order bnorm e z = room_ready st store (length order) (form_test st order ∷ finite_not_nan bnorm ∷ (not_above bnorm, 7) ∷ []) refl (sym e ∙ z)
 
 -- ---- the question beside it (02, #105): its own tests, after the order list's
 abbrev pub limit_tests : State → Float → Float → List Test
-limit_tests st bnorm limit = finite_number bnorm ∷ finite_number limit ∷ (not_above bnorm, 7) ∷ (below limit, 7) ∷ free_test st ∷ []
+limit_tests st bnorm limit = finite_not_nan bnorm ∷ finite_not_nan limit ∷ (not_above bnorm, 7) ∷ (below limit, 7) ∷ free_test st ∷ []
 
 module _ (st : State) (store : ℕ) (order : List ℕ) (bnorm limit : Float) where
   abbrev ordered : List Test
@@ -61,14 +61,14 @@ module _ (st : State) (store : ℕ) (order : List ℕ) (bnorm limit : Float) whe
   pub above-stopped : {c : ℕ} → c ≡ first_of (marked_solve_tests st store order (length order)) → (c ≡ 0 → ⊥) → c ≡ first_of (marked_above_tests st store order bnorm limit)
   above-stopped e h = sym (stopped ordered (limit_tests st bnorm limit) _ (gradient_first st store order e) h)
 
-  pub above-went : {c k : ℕ} → c ≡ first_of (marked_solve_tests st store order (length order)) → c ≡ 0 → k ≡ first_of (limit_tests st bnorm limit)
+  pub above_went : {c k : ℕ} → c ≡ first_of (marked_solve_tests st store order (length order)) → c ≡ 0 → k ≡ first_of (limit_tests st bnorm limit)
       → k ≡ first_of (marked_above_tests st store order bnorm limit)
-  above-went e z h = went_to ordered (limit_tests st bnorm limit) refl (gradient_first st store order e) z h
+  above_went e z h = went_to ordered (limit_tests st bnorm limit) refl (gradient_first st store order e) z h
 
 pub above_ready : (st : State) (store : List Float) (order : List ℕ) (bnorm limit : Float) {c : ℕ} → c ≡ first_of (marked_above_tests st (length store) order bnorm limit) → c ≡ 0
     → Ready st store (length order)
 above_ready st store order bnorm limit e z =
-    room-ready st store (length order) (form_test st order ∷ finite_number bnorm ∷ finite_number limit ∷ (not_above bnorm, 7) ∷ (below limit, 7) ∷ []) refl (sym e ∙ z)
+    room_ready st store (length order) (form_test st order ∷ finite_not_nan bnorm ∷ finite_not_nan limit ∷ (not_above bnorm, 7) ∷ (below limit, 7) ∷ []) refl (sym e ∙ z)
 
 -- ---- the norm of Jx
 abbrev pub jx_tests : State → ℕ → List ℕ → List Float → List Test
@@ -76,7 +76,7 @@ jx_tests st store order x = marked_solve_tests st store order (length x) ++ (fin
 
 pub jx_ready : (st : State) (store : List Float) (order : List ℕ) (x : List Float) {c : ℕ} → c ≡ first_of (jx_tests st (length store) order x) → c ≡ 0
     → Ready st store (min (length order) (length x))
-jx_ready st store order x e z = room-ready st store (min (length order) (length x)) (form_test st order ∷ finite_test (whole st) x ∷ []) refl (sym e ∙ z)
+jx_ready st store order x e z = room_ready st store (min (length order) (length x)) (form_test st order ∷ finite_test (whole st) x ∷ []) refl (sym e ∙ z)
 
 pub solve_long : (st : State) (store : ℕ) (order : List ℕ) (k : ℕ) {c : ℕ} → c ≡ first_of (marked_solve_tests st store order k) → c ≡ 0 → st.n ≤ k
 solve_long st store order k e z = let l = room_long st store (min (length order) k) (form_test st order ∷ []) refl (sym e ∙ z) in omega arith
@@ -92,10 +92,10 @@ pub above_read : (st : State) (store : List Float) (order : List ℕ) (bnorm lim
     → r ≡ rested_by st store (plain.above_call (without_frozen st) (take (cols st) order) bnorm limit (narrowed_in st store))
 above_read st store order bnorm limit f h = h ∙ ap (λ (k : ℕ). rested_by st store (plain.above_call (without_frozen st) (take k order) bnorm limit (narrowed_in st store))) f
 
-pub jx_read : (st : State) (store : List Float) (order : List ℕ) (x : List Float) {free : ℕ} {xs : List Float} {r : MarkedTold (Float × Ranges)} → free ≡ cols st → xs ≡ freeOf (marks_in st) x
+pub jx_read : (st : State) (store : List Float) (order : List ℕ) (x : List Float) {free : ℕ} {xs : List Float} {r : MarkedTold (Float × Ranges)} → free ≡ cols st → xs ≡ free_of (marks_in st) x
     → r ≡ rested_by st store (plain.jx_call (without_frozen st) (take free order) xs (narrowed_in st store))
-    → r ≡ rested_by st store (plain.jx_call (without_frozen st) (take (cols st) order) (freeOf (marks_in st) x) (narrowed_in st store))
+    → r ≡ rested_by st store (plain.jx_call (without_frozen st) (take (cols st) order) (free_of (marks_in st) x) (narrowed_in st store))
 jx_read st store order x {free} f g h =
     h
     ∙ ap (λ (l : List Float). rested_by st store (plain.jx_call (without_frozen st) (take free order) l (narrowed_in st store))) g
-    ∙ ap (λ (k : ℕ). rested_by st store (plain.jx_call (without_frozen st) (take k order) (freeOf (marks_in st) x) (narrowed_in st store))) f
+    ∙ ap (λ (k : ℕ). rested_by st store (plain.jx_call (without_frozen st) (take k order) (free_of (marks_in st) x) (narrowed_in st store))) f

@@ -43,8 +43,8 @@ pub record Ready (st : State) (store : List Float) (shortest : ℕ) : Type 0 whe
   pub each_long : st.n ≤ shortest
 
 module _ (st : State) (store : List Float) (shortest : ℕ) where
-  pub none-ready : NoneHold (marked_room_tests st (length store) shortest) → NoneHold (free_test st ∷ []) → Ready st store shortest
-  none-ready h f =
+  pub none_ready : NoneHold (marked_room_tests st (length store) shortest) → NoneHold (free_test st ∷ []) → Ready st store shortest
+  none_ready h f =
       let two = neither (outside st.m st.n) (mark_past st.n st.marks) h.1.0 in
       let three = neither (ltb (length store) (store_need st.n)) (ltb shortest st.n) h.1.1.0 in
       let i = inside st.m st.n two.0 in
@@ -62,21 +62,21 @@ module _ (st : State) (store : List Float) (shortest : ℕ) where
       }
 
   -- `marked_solve_tests st s order k ++ us` is `marked_room_tests st s (min (length order) k) ++ (form_test st order ∷ us)`; more: every test between 3 and 9
-  pub room-ready : (more : List Test) → numbered (more ++ (free_test st ∷ [])) ≡ true → first_of (marked_room_tests st (length store) shortest ++ (more ++ (free_test st ∷ []))) ≡ 0
+  pub room_ready : (more : List Test) → numbered (more ++ (free_test st ∷ [])) ≡ true → first_of (marked_room_tests st (length store) shortest ++ (more ++ (free_test st ∷ []))) ≡ 0
       → Ready st store shortest
-  room-ready more q e =
+  room_ready more q e =
       let ts = marked_room_tests st (length store) shortest in
       let us = more ++ (free_test st ∷ []) in
       let h = none_of_both ts us ((passed_iff (ts ++ us) q).0 e) in
-      none-ready h.0 (none_of_both more (free_test st ∷ []) h.1).1
+      none_ready h.0 (none_of_both more (free_test st ∷ []) h.1).1
 
 -- ---- a call by its marks and its tests: `if marks == 0 { .. }`, `if c != 0 { refused c }`, the working
 module _ {A : Type 0} (marks : ℕ) (tests : List Test) (unmarked worked : A) (refusal : ℕ → A) where
-  pub by-no-mark : marks ≡ 0 → unmarked ≡ call_by marks tests unmarked worked refusal
-  by-no-mark e = rw (eq-eqb marks 0 e, call_by)
+  pub by_no_mark : marks ≡ 0 → unmarked ≡ call_by marks tests unmarked worked refusal
+  by_no_mark e = rw (eq-eqb marks 0 e, call_by)
 
-  pub by-refusal : {c : ℕ} → (marks ≡ 0 → ⊥) → c ≡ first_of tests → (c ≡ 0 → ⊥) → refusal c ≡ call_by marks tests unmarked worked refusal
-  by-refusal {c} m e h = call-refused worked refusal tests c (sym e) (ne_eqb c 0 h) ∙ rw (ne_eqb marks 0 m, call_by)
+  pub by_refusal : {c : ℕ} → (marks ≡ 0 → ⊥) → c ≡ first_of tests → (c ≡ 0 → ⊥) → refusal c ≡ call_by marks tests unmarked worked refusal
+  by_refusal {c} m e h = call-refused worked refusal tests c (sym e) (ne_eqb c 0 h) ∙ rw (ne_eqb marks 0 m, call_by)
 
-  pub by-working : {c : ℕ} → (marks ≡ 0 → ⊥) → c ≡ first_of tests → c ≡ 0 → worked ≡ call_by marks tests unmarked worked refusal
-  by-working {c} m e z = call-worked worked refusal tests (sym e ∙ z) ∙ rw (ne_eqb marks 0 m, call_by)
+  pub by_working : {c : ℕ} → (marks ≡ 0 → ⊥) → c ≡ first_of tests → c ≡ 0 → worked ≡ call_by marks tests unmarked worked refusal
+  by_working {c} m e z = call-worked worked refusal tests (sym e ∙ z) ∙ rw (ne_eqb marks 0 m, call_by)

@@ -9,10 +9,10 @@ use lib.Ieee.{Float}
 use Rattle.leaves.specs.Number.{one}
 use Rattle.leaves.specs.Reply.{Reply, refused}
 use Rattle.leaves.specs.Tests.{first_of}
-use Rattle.frozen.specs.Frozen.{freeOf}
+use Rattle.frozen.specs.Frozen.{free_of}
 use Rattle.frozen.specs.Moved.{gather_call}
 use Rattle.frozen.specs.Narrowed.{narrowed}
-use Rattle.factor.specs.Tests.{finite_test, finite_number, not_above}
+use Rattle.factor.specs.Tests.{finite_test, finite_not_nan, not_above}
 use Rattle.factor.specs.Outcome as outcome
 use Rattle.factor.specs.declared.state.State.{State as Plain}
 use Rattle.measures.specs.Rescale.{Scaled}
@@ -26,27 +26,27 @@ use Rattle.calls.specs.Tests.{marked_room_tests, free_test}
 use Rattle.calls.specs.Outcome.{MarkedEnded, marked_ended, ended_as, narrowed_in, rested_store}
 use Rattle.calls.specs.Rescale.{marked_first_tests, marked_scaling_tests, frozen_entries, scaling_out, scaled_by, marked_scaling}
 use Rattle.calls.proofs.Backs.{of_reduced, put_back}
-use Rattle.calls.proofs.Passed.{Ready, room-ready, by-no-mark, by-refusal, by-working}
+use Rattle.calls.proofs.Passed.{Ready, room_ready, by_no_mark, by_refusal, by_working}
 use Rattle.calls.proofs.Ways.{gather-worked}
 
 -- ---- each mode's tests
 module _ (st : State) (store : ℕ) (diag x : List Float) (bound : Float) {k : ℕ} {md : Mode} where
-  pub first-scaled-tests : md ≡ mode.FirstScaled → k ≡ first_of (marked_first_tests st store diag x bound) → k ≡ first_of (marked_scaling_tests st md store diag x bound)
+  pub first_scaled_tests : md ≡ mode.FirstScaled → k ≡ first_of (marked_first_tests st store diag x bound) → k ≡ first_of (marked_scaling_tests st md store diag x bound)
   unfolding marked_scaling_tests
-  first-scaled-tests e h = rw e h
+  first_scaled_tests e h = rw e h
 
-  pub first-unscaled-tests : md ≡ mode.FirstUnscaled → k ≡ first_of (marked_first_tests st store diag x bound) → k ≡ first_of (marked_scaling_tests st md store diag x bound)
+  pub first_unscaled_tests : md ≡ mode.FirstUnscaled → k ≡ first_of (marked_first_tests st store diag x bound) → k ≡ first_of (marked_scaling_tests st md store diag x bound)
   unfolding marked_scaling_tests
-  first-unscaled-tests e h = rw e h
+  first_unscaled_tests e h = rw e h
 
-  pub later-scaled-tests : md ≡ mode.LaterScaled → k ≡ first_of (marked_room_tests st store (length diag) ++ (finite_test (whole st) diag ∷ free_test st ∷ []))
+  pub later_scaled_tests : md ≡ mode.LaterScaled → k ≡ first_of (marked_room_tests st store (length diag) ++ (finite_test (whole st) diag ∷ free_test st ∷ []))
       → k ≡ first_of (marked_scaling_tests st md store diag x bound)
   unfolding marked_scaling_tests
-  later-scaled-tests e h = rw e h
+  later_scaled_tests e h = rw e h
 
-  pub later-unscaled-tests : md ≡ mode.LaterUnscaled → k ≡ first_of (marked_room_tests st store (length diag) ++ (free_test st ∷ [])) → k ≡ first_of (marked_scaling_tests st md store diag x bound)
+  pub later_unscaled_tests : md ≡ mode.LaterUnscaled → k ≡ first_of (marked_room_tests st store (length diag) ++ (free_test st ∷ [])) → k ≡ first_of (marked_scaling_tests st md store diag x bound)
   unfolding marked_scaling_tests
-  later-unscaled-tests e h = rw e h
+  later_unscaled_tests e h = rw e h
 
 -- ---- what is known once they are passed: the lent scaling holds n, and so does x where it is read
 abbrev pub Lent : State → Mode → List Float → List Float → List Float → Type 0
@@ -55,7 +55,7 @@ Lent st md store diag x = Ready st store (length diag) × (parameters_read md st
 first_ready : (st : State) (store diag x : List Float) (bound : Float) → first_of (marked_first_tests st (length store) diag x bound) ≡ 0
     → Ready st store (length diag) × (st.n ≤ length x)
 first_ready st store diag x bound e =
-    let r = room-ready st store (min (length diag) (length x)) (finite_test (whole st) x ∷ finite_number bound ∷ (not_above bound, 7) ∷ []) refl e in
+    let r = room_ready st store (min (length diag) (length x)) (finite_test (whole st) x ∷ finite_not_nan bound ∷ (not_above bound, 7) ∷ []) refl e in
     let l = r.each_long in
     (record { filled = r.filled; sizes = r.sizes; reducible = r.reducible; each_long = omega arith }, omega arith)
 
@@ -64,8 +64,8 @@ scaling_lent : (st : State) (md : Mode) (store diag x : List Float) (bound : Flo
 unfolding marked_scaling_tests
 scaling_lent st mode.FirstScaled store diag x bound e = first_ready st store diag x bound e
 scaling_lent st mode.FirstUnscaled store diag x bound e = first_ready st store diag x bound e
-scaling_lent st mode.LaterScaled store diag x bound e = (room-ready st store (length diag) (finite_test (whole st) diag ∷ []) refl e, omega arith)
-scaling_lent st mode.LaterUnscaled store diag x bound e = (room-ready st store (length diag) [] refl e, omega arith)
+scaling_lent st mode.LaterScaled store diag x bound e = (room_ready st store (length diag) (finite_test (whole st) diag ∷ []) refl e, omega arith)
+scaling_lent st mode.LaterUnscaled store diag x bound e = (room_ready st store (length diag) [] refl e, omega arith)
 
 pub scaling_ready : (st : State) (md : Mode) (store diag x : List Float) (bound : Float) {c : ℕ} → c ≡ first_of (marked_scaling_tests st md (length store) diag x bound) → c ≡ 0
     → Lent st md store diag x
@@ -73,29 +73,29 @@ scaling_ready st md store diag x bound e z = scaling_lent st md store diag x bou
 
 -- ---- what stands at a frozen column afterwards
 module _ (n : ℕ) (diag : List Float) {md : Mode} where
-  pub entries-filled : (y : List Float) → md ≡ mode.FirstScaled → n ≤ length diag → y ≡ replicate (length (take n diag)) one → y ++ drop n diag ≡ frozen_entries md n diag
+  pub entries_filled : (y : List Float) → md ≡ mode.FirstScaled → n ≤ length diag → y ≡ replicate (length (take n diag)) one → y ++ drop n diag ≡ frozen_entries md n diag
   unfolding frozen_entries
-  entries-filled y e h f =
+  entries_filled y e h f =
       rw e (put_back n diag (replicate n one) h (ap length f ∙ length-replicate (length (take n diag)) one) (f ∙ ap (λ (k : ℕ). replicate k one) (length-take-le n diag h)))
 
-  pub first-kept : md ≡ mode.FirstUnscaled → diag ≡ frozen_entries md n diag
+  pub first_kept : md ≡ mode.FirstUnscaled → diag ≡ frozen_entries md n diag
   unfolding frozen_entries
-  first-kept e = rw e
+  first_kept e = rw e
 
   pub scaled-kept : md ≡ mode.LaterScaled → diag ≡ frozen_entries md n diag
   unfolding frozen_entries
   scaled-kept e = rw e
 
-  pub unscaled-kept : md ≡ mode.LaterUnscaled → diag ≡ frozen_entries md n diag
+  pub unscaled_kept : md ≡ mode.LaterUnscaled → diag ≡ frozen_entries md n diag
   unfolding frozen_entries
-  unscaled-kept e = rw e
+  unscaled_kept e = rw e
 
 -- ---- the working: b is the answer that the match handed on
 module _ (st : State) (md : Mode) (diag store : List Float) (call : Plain → List Float → outcome.Ended Scaled) {free : ℕ} {p q : Plain} {small t d : List Float} {a : Reply Scaled}
     (f : free ≡ cols st) (n : small ≡ narrowed st.n free store) (w : p ≡ without_frozen st) (h : outcome.ended a q t d ≡ call p small) where
-  pub scaled-back : {b : Reply Scaled} {s o : List Float} → a ≡ b → s ≡ rested_store st store → o ≡ scaling_out st md b d diag
+  pub scaled_back : {b : Reply Scaled} {s o : List Float} → a ≡ b → s ≡ rested_store st store → o ≡ scaling_out st md b d diag
       → marked_ended b st s o ≡ scaled_by st md diag store (call (without_frozen st) (narrowed_in st store))
-  scaled-back {b} {s} {o} e l g =
+  scaled_back {b} {s} {o} e l g =
       ap (λ (x : List Float). marked_ended b st x o) l
       ∙ ap (λ (x : List Float). marked_ended b st (rested_store st store) x) g
       ∙ ap (λ (r : Reply Scaled). marked_ended r st (rested_store st store) (scaling_out st md r d diag)) (sym e)
@@ -116,30 +116,30 @@ module _ (st : State) (md : Mode) (diag x : List Float) (bound : Float) (s : Lis
   unmarked = ended_as st (plain.scaling_call (whole st) md diag x bound s)
 
   abbrev worked : MarkedEnded Scaled
-  worked = scaled_by st md diag s (plain.scaling_call (without_frozen st) md (freeOf (marks_in st) diag) (freeOf (marks_in st) x) bound (narrowed_in st s))
+  worked = scaled_by st md diag s (plain.scaling_call (without_frozen st) md (free_of (marks_in st) diag) (free_of (marks_in st) x) bound (narrowed_in st s))
 
-  pub scaling-unmarked : {p q : Plain} {st' : State} {t o : List Float} {a : Reply Scaled} → st.marks ≡ 0 → p ≡ whole st
+  pub scaling_unmarked : {p q : Plain} {st' : State} {t o : List Float} {a : Reply Scaled} → st.marks ≡ 0 → p ≡ whole st
       → outcome.ended a q t o ≡ plain.scaling_call p md diag x bound s → st' ≡ marked st.marks q → marked_ended a st' t o ≡ marked_scaling st md diag x bound s
   unfolding marked_scaling
-  scaling-unmarked {t = t} {o} {a} m w h e =
+  scaling_unmarked {t = t} {o} {a} m w h e =
       ap (λ (z : State). marked_ended a z t o) e
       ∙ ap (λ (r : outcome.Ended Scaled). ended_as st r) (h ∙ ap (λ (z : Plain). plain.scaling_call z md diag x bound s) w)
-      ∙ by-no-mark st.marks (marked_scaling_tests st md (length s) diag x bound) unmarked worked (λ k. marked_ended (refused k) st s diag) m
+      ∙ by_no_mark st.marks (marked_scaling_tests st md (length s) diag x bound) unmarked worked (λ k. marked_ended (refused k) st s diag) m
 
   module _ {c : ℕ} (m : st.marks ≡ 0 → ⊥) (e : c ≡ first_of (marked_scaling_tests st md (length s) diag x bound)) where
-    pub scaling-refused : (c ≡ 0 → ⊥) → marked_ended (refused c) st s diag ≡ marked_scaling st md diag x bound s
+    pub scaling_refused : (c ≡ 0 → ⊥) → marked_ended (refused c) st s diag ≡ marked_scaling st md diag x bound s
     unfolding marked_scaling
-    scaling-refused h = by-refusal st.marks (marked_scaling_tests st md (length s) diag x bound) unmarked worked (λ k. marked_ended (refused k) st s diag) m e h
+    scaling_refused h = by_refusal st.marks (marked_scaling_tests st md (length s) diag x bound) unmarked worked (λ k. marked_ended (refused k) st s diag) m e h
 
     -- w: what was lent for the gathered x
-    pub scaling-worked : c ≡ 0 → {r : MarkedEnded Scaled} {d ys xs : List Float} (w : List Float) {u : Reply (Unit {0})} → d ≡ freeOf (marks_in st) diag
+    pub scaling_worked : c ≡ 0 → {r : MarkedEnded Scaled} {d ys xs : List Float} (w : List Float) {u : Reply (Unit {0})} → d ≡ free_of (marks_in st) diag
         → length w ≡ cols st → (u, xs) ≡ gather_call st.n st.marks x w → ys ≡ xs
         → r ≡ scaled_by st md diag s (plain.scaling_call (without_frozen st) md d ys bound (narrowed_in st s)) → r ≡ marked_scaling st md diag x bound s
     unfolding marked_scaling
-    scaling-worked z {ys = ys} {xs} w f l g y h =
+    scaling_worked z {ys = ys} {xs} w f l g y h =
         let k = (scaling_ready st md s diag x bound e z).1 in
-        let q = scaling_read (without_frozen st) md (freeOf (marks_in st) diag) bound (narrowed_in st s) st.n (length x) k (λ (i : st.n ≤ length x). y ∙ gather-worked st.n st.marks x w xs i l g) in
+        let q = scaling_read (without_frozen st) md (free_of (marks_in st) diag) bound (narrowed_in st s) st.n (length x) k (λ (i : st.n ≤ length x). y ∙ gather-worked st.n st.marks x w xs i l g) in
         h
         ∙ ap (λ (v : List Float). scaled_by st md diag s (plain.scaling_call (without_frozen st) md v ys bound (narrowed_in st s))) f
         ∙ ap (λ (r : outcome.Ended Scaled). scaled_by st md diag s r) q
-        ∙ by-working st.marks (marked_scaling_tests st md (length s) diag x bound) unmarked worked (λ k. marked_ended (refused k) st s diag) m e z
+        ∙ by_working st.marks (marked_scaling_tests st md (length s) diag x bound) unmarked worked (λ k. marked_ended (refused k) st s diag) m e z

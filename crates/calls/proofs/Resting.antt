@@ -22,43 +22,43 @@ use Rattle.calls.specs.State.{marked, cols, whole, without_frozen}
 use Rattle.calls.specs.Tests.{call_by}
 use Rattle.calls.specs.Outcome.{MarkedTold, marked_told, told_as, narrowed_in, rested_by}
 use Rattle.calls.specs.inner.Reducible.{Reducible}
-use Rattle.calls.proofs.Passed.{Ready, by-no-mark, by-refusal, by-working}
+use Rattle.calls.proofs.Passed.{Ready, by_no_mark, by_refusal, by_working}
 
 -- ---- the first of 320 numbers, lent as a store
 need_fits : (free : ℕ) → free ≤ 16 → store_need free ≤ 320
 need_fits free h = let g : free * free ≤ 16 * 16 = mul-le-mul h h in omega arith
 
 module _ {need free : ℕ} {r : List Float} (e : r ≡ replicate 320 one) (f : need ≡ store_need free) (h : free ≤ 16) where
-  pub small-fits : need ≤ length r
-  small-fits = let l : length r ≡ 320 = ap length e ∙ length-replicate 320 one in let g = need_fits free h in omega arith
+  pub small_fits : need ≤ length r
+  small_fits = let l : length r ≡ 320 = ap length e ∙ length-replicate 320 one in let g = need_fits free h in omega arith
 
-  pub small-long : length (take need r) ≡ need
-  small-long = length-take-le need r small-fits
+  pub small_long : length (take need r) ≡ need
+  small_long = length-take-le need r small_fits
 
 -- ---- a lent problem whose tests are passed, its free columns counted
 module _ {st : State} {store : List Float} {shortest free : ℕ} (r : Ready st store shortest) (e : free ≡ cols st) where
-  pub counted-few : free ≤ 16
-  counted-few = let p = r.reducible.fits in let w = r.reducible.few in omega arith
+  pub counted_few : free ≤ 16
+  counted_few = let p = r.reducible.fits in let w = r.reducible.few in omega arith
 
-  pub counted-each : free ≤ shortest
-  counted-each = let p = r.reducible.fits in let l = r.each_long in omega arith
+  pub counted_each : free ≤ shortest
+  counted_each = let p = r.reducible.fits in let l = r.each_long in omega arith
 
-  pub counted-in : Reducible st.n st.marks free store
-  counted-in = rw e r.reducible
+  pub counted_in : Reducible st.n st.marks free store
+  counted_in = rw e r.reducible
 
 -- ---- w, written into the first of sixteen numbers and lent again
 module _ {free : ℕ} {room : List Float} (w : List Float) (e : room ≡ replicate 16 plus_zero) (h : free ≤ 16) (k : length w ≡ length (take free room)) where
   as_long : length w ≡ free
   as_long = k ∙ lent_long free room e h
 
-  pub again-fits : free ≤ length (w ++ drop free room)
-  again-fits = let l = as_long in simp length-append (omega arith)
+  pub again_fits : free ≤ length (w ++ drop free room)
+  again_fits = let l = as_long in simp length-append (omega arith)
 
-  pub again-same : take free (w ++ drop free room) ≡ w
-  again-same = take_at w (drop free room) free as_long
+  pub again_same : take free (w ++ drop free room) ≡ w
+  again_same = take_at w (drop free room) free as_long
 
-  pub again-long : length (take free (w ++ drop free room)) ≡ free
-  again-long = ap length again-same ∙ as_long
+  pub again_long : length (take free (w ++ drop free room)) ≡ free
+  again_long = ap length again_same ∙ as_long
 
 -- ---- the working: narrowed, worked out there, and work +0 in the lent store
 module _ {A : Type 0} (st : State) (store : List Float) (call : Plain → List Float → plain.Told A) where
@@ -71,16 +71,16 @@ module _ {A : Type 0} (st : State) (store : List Float) (call : Plain → List F
 
 -- ---- the call: unmarked, the call that knows no marks, of its state
 module _ {A : Type 0} (st : State) (store : List Float) (tests : List Test) (unmarked : Plain → plain.Told A) (worked : plain.Told A) where
-  abbrev pub restCall : MarkedTold A
-  restCall = call_by st.marks tests (told_as st (unmarked (whole st))) (rested_by st store worked) (λ k. marked_told (refused k) st store)
+  abbrev pub rest_call : MarkedTold A
+  rest_call = call_by st.marks tests (told_as st (unmarked (whole st))) (rested_by st store worked) (λ k. marked_told (refused k) st store)
 
-  pub rest-unmarked : {p q : Plain} {s : State} {t : List Float} {a : Reply A} → st.marks ≡ 0 → p ≡ whole st → plain.told a q t ≡ unmarked p
-      → s ≡ marked st.marks q → marked_told a s t ≡ restCall
-  rest-unmarked {q = q} {t = t} {a} m d h e =
-      ap (λ (x : State). marked_told a x t) e ∙ ap (told_as st) (h ∙ ap unmarked d) ∙ by-no-mark st.marks tests (told_as st (unmarked (whole st))) (rested_by st store worked) (λ k. marked_told (refused k) st store) m
+  pub rest_unmarked : {p q : Plain} {s : State} {t : List Float} {a : Reply A} → st.marks ≡ 0 → p ≡ whole st → plain.told a q t ≡ unmarked p
+      → s ≡ marked st.marks q → marked_told a s t ≡ rest_call
+  rest_unmarked {q = q} {t = t} {a} m d h e =
+      ap (λ (x : State). marked_told a x t) e ∙ ap (told_as st) (h ∙ ap unmarked d) ∙ by_no_mark st.marks tests (told_as st (unmarked (whole st))) (rested_by st store worked) (λ k. marked_told (refused k) st store) m
 
-  pub rest-refused : {c : ℕ} → (st.marks ≡ 0 → ⊥) → c ≡ first_of tests → (c ≡ 0 → ⊥) → marked_told (refused c) st store ≡ restCall
-  rest-refused m e h = by-refusal st.marks tests (told_as st (unmarked (whole st))) (rested_by st store worked) (λ k. marked_told (refused k) st store) m e h
+  pub rest_refused : {c : ℕ} → (st.marks ≡ 0 → ⊥) → c ≡ first_of tests → (c ≡ 0 → ⊥) → marked_told (refused c) st store ≡ rest_call
+  rest_refused m e h = by_refusal st.marks tests (told_as st (unmarked (whole st))) (rested_by st store worked) (λ k. marked_told (refused k) st store) m e h
 
-  pub rest-worked : {c : ℕ} {r : MarkedTold A} → (st.marks ≡ 0 → ⊥) → c ≡ first_of tests → c ≡ 0 → r ≡ rested_by st store worked → r ≡ restCall
-  rest-worked m e z h = h ∙ by-working st.marks tests (told_as st (unmarked (whole st))) (rested_by st store worked) (λ k. marked_told (refused k) st store) m e z
+  pub rest_worked : {c : ℕ} {r : MarkedTold A} → (st.marks ≡ 0 → ⊥) → c ≡ first_of tests → c ≡ 0 → r ≡ rested_by st store worked → r ≡ rest_call
+  rest_worked m e z h = h ∙ by_working st.marks tests (told_as st (unmarked (whole st))) (rested_by st store worked) (λ k. marked_told (refused k) st store) m e z

@@ -15,9 +15,9 @@ use Rattle.leaves.specs.Square.{zeros}
 use Rattle.leaves.specs.Tests.{Test, first_of, none_zero, all_finite}
 use Rattle.leaves.proofs.Refusals.{stopped, test_met, went_to, past, passed_iff}
 use Rattle.leaves.proofs.Insides.{neither}
-use Rattle.frozen.specs.Frozen.{freeOf}
+use Rattle.frozen.specs.Frozen.{free_of}
 use Rattle.factor.specs.State.{store_need}
-use Rattle.factor.specs.Tests.{finite_test, finite_number, not_above, below}
+use Rattle.factor.specs.Tests.{finite_test, finite_not_nan, not_above, below}
 use Rattle.search.specs.Search.{Flagged}
 use Rattle.search.specs.Search as plain
 use Rattle.calls.specs.declared.state.State.{State}
@@ -25,8 +25,8 @@ use Rattle.calls.specs.State.{marks_in, cols, whole, without_frozen}
 use Rattle.calls.specs.Tests.{form_test, marked_solve_tests, free_test}
 use Rattle.calls.specs.Outcome.{MarkedEnded, marked_ended, ended_as, narrowed_in, emptied_by}
 use Rattle.calls.specs.Search.{marked_search_tests, marked_search}
-use Rattle.calls.proofs.Passed.{Ready, room-ready, by-no-mark, by-refusal, by-working}
-use Rattle.calls.proofs.Backs.{of-lent}
+use Rattle.calls.proofs.Passed.{Ready, room_ready, by_no_mark, by_refusal, by_working}
+use Rattle.calls.proofs.Backs.{of_lent}
 
 -- ---- the tests, in order
 module _ (st : State) (store : ℕ) (order : List ℕ) (diag : List Float) (radius lambda : Float) (out : ℕ) {c k : ℕ} (m : k ≡ min (length diag) out) (e : c ≡ first_of (marked_solve_tests st store order k)) where
@@ -35,7 +35,7 @@ module _ (st : State) (store : ℕ) (order : List ℕ) (diag : List Float) (radi
 
   abbrev numbers : List Test
   numbers =
-      finite_test (whole st) diag ∷ finite_number radius ∷ finite_number lambda ∷ (not_above radius, 7) ∷ (below lambda, 7) ∷ (not (none_zero (take st.n diag)), 7) ∷ free_test st ∷ []
+      finite_test (whole st) diag ∷ finite_not_nan radius ∷ finite_not_nan lambda ∷ (not_above radius, 7) ∷ (below lambda, 7) ∷ (not (none_zero (take st.n diag)), 7) ∷ free_test st ∷ []
 
   abbrev all : ℕ
   all = first_of (marked_search_tests st store order diag radius lambda out)
@@ -43,8 +43,8 @@ module _ (st : State) (store : ℕ) (order : List ℕ) (diag : List Float) (radi
   tested : c ≡ first_of first
   tested = e ∙ ap (λ (j : ℕ). first_of (marked_solve_tests st store order j)) m
 
-  pub first-met : (c ≡ 0 → ⊥) → c ≡ all
-  first-met h = sym (stopped first numbers c tested h)
+  pub first_met : (c ≡ 0 → ⊥) → c ≡ all
+  first_met h = sym (stopped first numbers c tested h)
 
   module _ (z : c ≡ 0) where
     pub diag_long : st.n ≤ length diag
@@ -57,31 +57,31 @@ module _ (st : State) (store : ℕ) (order : List ℕ) (diag : List Float) (radi
     to : {j : ℕ} → j ≡ first_of numbers → j ≡ all
     to h = went_to first numbers refl tested z h
 
-    pub diag-met : not (all_finite (take st.n diag)) ≡ true → 6 ≡ all
-    diag-met h = to (sym (test_met _ _ h))
+    pub diag_met : not (all_finite (take st.n diag)) ≡ true → 6 ≡ all
+    diag_met h = to (sym (test_met _ _ h))
 
     module _ (p₁ : not (all_finite (take st.n diag)) ≡ false) where
-      pub radius-met : not (is_finite radius) ≡ true → 6 ≡ all
-      radius-met h = to (past _ _ p₁ (sym (test_met _ _ h)))
+      pub radius_met : not (is_finite radius) ≡ true → 6 ≡ all
+      radius_met h = to (past _ _ p₁ (sym (test_met _ _ h)))
 
       module _ (p₂ : not (is_finite radius) ≡ false) where
-        pub lambda-met : not (is_finite lambda) ≡ true → 6 ≡ all
-        lambda-met h = to (past _ _ p₁ (past _ _ p₂ (sym (test_met _ _ h))))
+        pub lambda_met : not (is_finite lambda) ≡ true → 6 ≡ all
+        lambda_met h = to (past _ _ p₁ (past _ _ p₂ (sym (test_met _ _ h))))
 
         module _ (p₃ : not (is_finite lambda) ≡ false) where
-          pub above-met : not_above radius ≡ true → 7 ≡ all
-          above-met h = to (past _ _ p₁ (past _ _ p₂ (past _ _ p₃ (sym (test_met _ _ h)))))
+          pub above_met : not_above radius ≡ true → 7 ≡ all
+          above_met h = to (past _ _ p₁ (past _ _ p₂ (past _ _ p₃ (sym (test_met _ _ h)))))
 
           module _ (p₄ : not_above radius ≡ false) where
-            pub below-met : below lambda ≡ true → 7 ≡ all
-            below-met h = to (past _ _ p₁ (past _ _ p₂ (past _ _ p₃ (past _ _ p₄ (sym (test_met _ _ h))))))
+            pub below_met : below lambda ≡ true → 7 ≡ all
+            below_met h = to (past _ _ p₁ (past _ _ p₂ (past _ _ p₃ (past _ _ p₄ (sym (test_met _ _ h))))))
 
             module _ (p₅ : below lambda ≡ false) where
-              pub zero-met : not (none_zero (take st.n diag)) ≡ true → 7 ≡ all
-              zero-met h = to (past _ _ p₁ (past _ _ p₂ (past _ _ p₃ (past _ _ p₄ (past _ _ p₅ (sym (test_met _ _ h)))))))
+              pub zero_met : not (none_zero (take st.n diag)) ≡ true → 7 ≡ all
+              zero_met h = to (past _ _ p₁ (past _ _ p₂ (past _ _ p₃ (past _ _ p₄ (past _ _ p₅ (sym (test_met _ _ h)))))))
 
-              pub free-met : {j : ℕ} → not (none_zero (take st.n diag)) ≡ false → j ≡ first_of (free_test st ∷ []) → j ≡ all
-              free-met p₆ h = to (past _ _ p₁ (past _ _ p₂ (past _ _ p₃ (past _ _ p₄ (past _ _ p₅ (past _ _ p₆ h))))))
+              pub free_met : {j : ℕ} → not (none_zero (take st.n diag)) ≡ false → j ≡ first_of (free_test st ∷ []) → j ≡ all
+              free_met p₆ h = to (past _ _ p₁ (past _ _ p₂ (past _ _ p₃ (past _ _ p₄ (past _ _ p₅ (past _ _ p₆ h))))))
 
 -- ---- a lent problem whose tests are passed, its free columns counted
 pub record Lent (st : State) (order : List ℕ) (diag store out : List Float) (free : ℕ) : Type 0 where
@@ -110,31 +110,31 @@ module _ (st : State) (order : List ℕ) (diag : List Float) (radius lambda : Fl
   working o d x = emptied_by st store out (plain.search_call (without_frozen st) o d radius lambda (narrowed_in st store) x)
 
   abbrev worked : MarkedEnded Flagged
-  worked = working (take (cols st) order) (freeOf (marks_in st) diag) (zeros (cols st))
+  worked = working (take (cols st) order) (free_of (marks_in st) diag) (zeros (cols st))
 
   abbrev refusal : ℕ → MarkedEnded Flagged
   refusal k = marked_ended (refused k) st store out
 
   pub search-unmarked : {x : MarkedEnded Flagged} → st.marks ≡ 0 → x ≡ unmarked → x ≡ marked_search st order diag radius lambda store out
   unfolding marked_search
-  search-unmarked m h = h ∙ by-no-mark st.marks tests unmarked worked refusal m
+  search-unmarked m h = h ∙ by_no_mark st.marks tests unmarked worked refusal m
 
   module _ {c : ℕ} (e : c ≡ first_of tests) where
     pub search-refused : (st.marks ≡ 0 → ⊥) → (c ≡ 0 → ⊥) → refusal c ≡ marked_search st order diag radius lambda store out
     unfolding marked_search
-    search-refused m h = by-refusal st.marks tests unmarked worked refusal m e h
+    search-refused m h = by_refusal st.marks tests unmarked worked refusal m e h
 
     module _ (z : c ≡ 0) {free : ℕ} (f : free ≡ cols st) where
       pub search-lent : Lent st order diag store out free
       search-lent =
-          let more = form_test st order ∷ finite_test (whole st) diag ∷ finite_number radius ∷ finite_number lambda ∷ (not_above radius, 7) ∷ (below lambda, 7) ∷ (not (none_zero (take st.n diag)), 7) ∷ [] in
-          let r = room-ready st store (min (length order) (min (length diag) (length out))) more refl (sym e ∙ z) in
+          let more = form_test st order ∷ finite_test (whole st) diag ∷ finite_not_nan radius ∷ finite_not_nan lambda ∷ (not_above radius, 7) ∷ (below lambda, 7) ∷ (not (none_zero (take st.n diag)), 7) ∷ [] in
+          let r = room_ready st store (min (length order) (min (length diag) (length out))) more refl (sym e ∙ z) in
           let l = r.each_long in
           record { ready = r; counted = f; order_fits = omega arith; diag_fits = omega arith; out_fits = omega arith }
 
-      pub search-worked : (st.marks ≡ 0 → ⊥) → (d r : List Float) {x : MarkedEnded Flagged} → d ≡ freeOf (marks_in st) diag → r ≡ replicate 16 plus_zero → x ≡ working (take free order) d (take free r)
+      pub search-worked : (st.marks ≡ 0 → ⊥) → (d r : List Float) {x : MarkedEnded Flagged} → d ≡ free_of (marks_in st) diag → r ≡ replicate 16 plus_zero → x ≡ working (take free order) d (take free r)
           → x ≡ marked_search st order diag radius lambda store out
       unfolding marked_search
       search-worked m d r g q h =
           h ∙ ap (λ (y : List Float). working (take free order) y (take free r)) g
-          ∙ of-lent st store _ search-lent.ready f (λ (o : List ℕ) (y : List Float). working o (freeOf (marks_in st) diag) y) order r q ∙ by-working st.marks tests unmarked worked refusal m e z
+          ∙ of_lent st store _ search-lent.ready f (λ (o : List ℕ) (y : List Float). working o (free_of (marks_in st) diag) y) order r q ∙ by_working st.marks tests unmarked worked refusal m e z

@@ -18,7 +18,7 @@ use Rattle.leaves.specs.Vector.{copy}
 use Rattle.leaves.proofs.Folds.{copy_leaves}
 use Rattle.leaves.proofs.Insides.{Inside, within}
 use Rattle.leaves.proofs.Overs.{append_nil}
-use Rattle.frozen.specs.Frozen.{next_of, marks_of, free_count, freeOf, merged}
+use Rattle.frozen.specs.Frozen.{next_of, marks_of, free_count, free_of, merged}
 use Rattle.frozen.specs.Moved.{gather_call, merge_call}
 use Rattle.frozen.specs.Narrowed.{narrowed, narrow_call}
 use Rattle.factor.specs.Outcome.{read}
@@ -37,14 +37,14 @@ unfolding marks_of
 marks-length zero x = refl
 marks-length (suc n) x = ap suc (marks-length n (next_of x))
 
-pub free_length : {A : Type 0} (ms : List Bool) (xs : List A) → length ms ≤ length xs → length (freeOf ms xs) ≡ free_count ms
-unfolding freeOf free_count
+pub free_length : {A : Type 0} (ms : List Bool) (xs : List A) → length ms ≤ length xs → length (free_of ms xs) ≡ free_count ms
+unfolding free_of free_count
 free_length [] xs h = refl
 free_length (b ∷ ms) [] h = absurd (not-suc-le-zero h)
 free_length (true ∷ ms) (x ∷ xs) h = free_length ms xs (le_of_suc-le-suc h)
 free_length (false ∷ ms) (x ∷ xs) h = ap suc (free_length ms xs (le_of_suc-le-suc h))
 
-pub gathered_length : {A : Type 0} (n marks : ℕ) (xs : List A) → n ≤ length xs → length (freeOf (marks_of n marks) xs) ≡ free_count (marks_of n marks)
+pub gathered_length : {A : Type 0} (n marks : ℕ) (xs : List A) → n ≤ length xs → length (free_of (marks_of n marks) xs) ≡ free_count (marks_of n marks)
 gathered_length n marks xs h = free_length (marks_of n marks) xs (rw (marks-length n marks) h)
 
 -- a list written over its whole length
@@ -53,14 +53,14 @@ written_whole xs ys k h = rw (drop_of_length-le ys {i = k} h) (append_nil xs)
 
 -- ---- there
 module _ {n marks free : ℕ} {store : List Float} (r : Reducible n marks free store) where
-  pub whole-inside : Inside 1 n
-  whole-inside =
+  pub whole_inside : Inside 1 n
+  whole_inside =
       let a = r.some in
       let b = r.fits in
       record { rows_some = omega arith; rows_few = omega arith; cols_some = omega arith; cols_few = r.few }
 
-  pub free-inside : Inside 1 free
-  free-inside =
+  pub free_inside : Inside 1 free
+  free_inside =
       let a = r.fits in
       let b = r.few in
       record { rows_some = omega arith; rows_few = omega arith; cols_some = r.some; cols_few = omega arith }
@@ -70,26 +70,26 @@ module _ {n marks free : ℕ} {store : List Float} (r : Reducible n marks free s
   narrow-worked small now {d} l e =
       let need = free * free + 4 * free in
       let h : narrow_call n free store small ≡ (answered tt, narrowed n free store ++ drop need small) =
-      rw (within 1 n whole-inside, within 1 free free-inside, le-ltb n free r.fits, le-ltb (length store) (n * n + 4 * n) r.long, le-ltb (length small) need (omega arith), narrow_call) refl in
+      rw (within 1 n whole_inside, within 1 free free_inside, le-ltb n free r.fits, le-ltb (length store) (n * n + 4 * n) r.long, le-ltb (length small) need (omega arith), narrow_call) refl in
       ap (λ (p : Reply (Unit {0}) × List Float). p.1) (e ∙ h) ∙ written_whole (narrowed n free store) small need (omega arith)
 
   tests_passed : tested 1 n store n ≡ 0
   unfolding first_of
-  tests_passed = rw (within 1 n whole-inside, le-ltb (length store) (store_need n) r.long, le-ltb n n (le_refl n))
+  tests_passed = rw (within 1 n whole_inside, le-ltb (length store) (store_need n) r.long, le-ltb n n (le_refl n))
 
-  pub rest-worked : (now : List Float) {d : Reply (Unit {0})} → read d now ≡ rest_in n store → now ≡ lay (rested (load n store))
+  pub rest_worked : (now : List Float) {d : Reply (Unit {0})} → read d now ≡ rest_in n store → now ≡ lay (rested (load n store))
   unfolding rest_in
-  rest-worked now e = ap (λ (p : _). p.out) (rw (tests_passed, rest_in) at e)
+  rest_worked now e = ap (λ (p : _). p.out) (rw (tests_passed, rest_in) at e)
 
   pub empty-worked : (now : List Float) {d : Reply (Unit {0})} → read d now ≡ empty_in n store → now ≡ lay (emptied (load n store))
   unfolding empty_in
   empty-worked now e = ap (λ (p : _). p.out) (rw (tests_passed, empty_in) at e)
 
 pub gather-worked : (n marks : ℕ) (xs w now : List Float) {d : Reply (Unit {0})} → n ≤ length xs → length w ≡ free_count (marks_of n marks)
-    → (d, now) ≡ gather_call n marks xs w → now ≡ freeOf (marks_of n marks) xs
+    → (d, now) ≡ gather_call n marks xs w → now ≡ free_of (marks_of n marks) xs
 unfolding gather_call
 gather-worked n marks xs w now {d} h l e =
-    let ys = freeOf (marks_of n marks) xs in
+    let ys = free_of (marks_of n marks) xs in
     let k = gathered_length n marks xs h in
     let f : gather_call n marks xs w ≡ (answered tt, ys ++ drop (length ys) w) = rw (le-ltb (length xs) n h, le-ltb (length w) (free_count (marks_of n marks)) (omega arith), gather_call) refl in
     ap (λ (p : Reply (Unit {0}) × List Float). p.1) (e ∙ f) ∙ written_whole ys w (length ys) (omega arith)

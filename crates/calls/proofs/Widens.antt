@@ -12,11 +12,11 @@ use Rattle.leaves.specs.Number.{plus_zero}
 use Rattle.leaves.specs.Square.{uppers_of, belows_of, zeros, cleared}
 use Rattle.leaves.specs.inner.Squares.{Square}
 use Rattle.leaves.proofs.Splices.{lent, drop-take}
-use Rattle.leaves.proofs.Squares.{below_at, below-long}
+use Rattle.leaves.proofs.Squares.{below_at, below_long}
 use Rattle.factor.specs.Solve.{padded}
 use Rattle.factor.specs.Room.{Room, load, lay, leaving, emptied}
 use Rattle.factor.specs.inner.Rooms.{Sized, with_part}
-use Rattle.factor.proofs.Layouts.{laid, load-lay, load_shaped, emptied-shaped, square_upper, square_below}
+use Rattle.factor.proofs.Layouts.{laid, load-lay, load_shaped, emptied_shaped, square_upper, square_below}
 use Rattle.factor.proofs.Lent.{end-upper, end_below, part_read, part_lent, with_square, square_lent}
 use Rattle.calls.specs.Outcome.{widened}
 
@@ -56,19 +56,19 @@ module _ (n free k : ℕ) (small square : List Float) (z : Square n square) (w :
   abbrev pub column : List Float
   column = get_or (belows_of free small) k []
 
-  column-read : (p q : ℕ) → p ≡ k * free + suc k → q ≡ k * free + free → take (q - p) (drop p small) ≡ column
-  column-read p q ep eq =
+  column_read : (p q : ℕ) → p ≡ k * free + suc k → q ≡ k * free + free → take (q - p) (drop p small) ≡ column
+  column_read p q ep eq =
       let e : q - p ≡ free - suc k = omega arith in
       rw (e, ep) (sym (below_at free small w k h ∙ drop-take (suc k) free (drop (k * free) small) ∙ ap (λ (x : List Float). take (free - suc k) x) (drop-drop (suc k) (k * free) small)))
 
-  pub column-widened : (p q a e : ℕ) (y : List Float) → p ≡ k * free + suc k → q ≡ k * free + free → a ≡ k * n + suc k → e ≡ k * n + n
+  pub column_widened : (p q a e : ℕ) (y : List Float) → p ≡ k * free + suc k → q ≡ k * free + free → a ≡ k * n + suc k → e ≡ k * n + n
       → y ≡ padded (e - a) (take (q - p) (drop p small))
       → (uppers_of n (take a square ++ (y ++ drop (e - a) (drop a square))) ≡ uppers_of n square)
       × (belows_of n (take a square ++ (y ++ drop (e - a) (drop a square))) ≡ set (belows_of n square) k (padded (n - suc k) column))
-  column-widened p q a e y ep eq ea ee g =
+  column_widened p q a e y ep eq ea ee g =
       let s : e - a ≡ n - suc k = omega arith in
-      let i : y ≡ padded (n - suc k) column = g ∙ rw (column-read p q ep eq, s) in
-      let l : length y ≡ n - suc k = ap length i ∙ padded_long (n - suc k) column (let b = below-long free small w k h in omega arith) in
+      let i : y ≡ padded (n - suc k) column = g ∙ rw (column_read p q ep eq, s) in
+      let l : length y ≡ n - suc k = ap length i ∙ padded_long (n - suc k) column (let b = below_long free small w k h in omega arith) in
       rw (lent a e y square (omega arith), ea, ee)
       (end-upper n square z k (omega arith) y l, end_below n square z k (omega arith) y l ∙ ap (λ (x : List Float). set (belows_of n square) k x) i)
 
@@ -81,7 +81,7 @@ ldiag_read n p s e = part_read n 2 p s e
 
 module _ (n : ℕ) (s₀ s₁ : List Float) (z : Sized n s₀) (e : s₁ ≡ lay (emptied (load n s₀))) where
   emptied-load : load n s₁ ≡ emptied (load n s₀)
-  emptied-load = rw e (load-lay n (emptied (load n s₀)) (emptied-shaped n (load n s₀) (load_shaped n s₀ z)))
+  emptied-load = rw e (load-lay n (emptied (load n s₀)) (emptied_shaped n (load n s₀) (load_shaped n s₀ z)))
 
   pub emptied-below : belows_of n (take (n * n) s₁) ≡ widened n []
   unfolding leaving

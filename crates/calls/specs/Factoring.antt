@@ -5,7 +5,7 @@ use Rattle.leaves.specs.Reply.{Reply, answered, refused}
 use Rattle.leaves.specs.Square.{zeros}
 use Rattle.leaves.specs.Tests.{outside, Test, all_finite}
 use Rattle.leaves.specs.declared.norm.Ranges.{Ranges}
-use Rattle.frozen.specs.Frozen.{marks_of, mark_past, free_count, freeColumns}
+use Rattle.frozen.specs.Frozen.{marks_of, mark_past, free_count, free_columns}
 use Rattle.frozen.specs.Narrowed.{spread_out}
 use Rattle.factor.specs.State.{store_need, bench_need}
 use Rattle.factor.specs.Outcome.{written}
@@ -50,7 +50,7 @@ unfoldable pub marked_factoring : ℕ → ℕ → ℕ → List Float → List Fl
 marked_factoring m n marks jacobian residuals store order bench =
     let ms = marks_of n marks in
     let free = free_count ms in
-    let e = plain.factor_call m free (freeColumns m ms jacobian) residuals (zeros (store_need free)) (take free order) (zeros (bench_need m free)) in
+    let e = plain.factor_call m free (free_columns m ms jacobian) residuals (zeros (store_need free)) (take free order) (zeros (bench_need m free)) in
     call_by marks (marked_factor_tests m n marks jacobian residuals (length store) (length order) (length bench))
     (factored_as (plain.factor_call m n jacobian residuals store order bench))
     (factored_if m n marks free e.reply e store order bench)

@@ -2,7 +2,7 @@
 use Rattle.std.specs.Prelude.{ℕ, min, List, [], ◌∷◌, ◌++◌, length, take, Float}
 use Rattle.leaves.specs.Reply.{refused}
 use Rattle.leaves.specs.Square.{zeros}
-use Rattle.frozen.specs.Frozen.{freeOf}
+use Rattle.frozen.specs.Frozen.{free_of}
 use Rattle.factor.specs.Tests.{held_test, finite_test}
 use Rattle.factor.specs.HeldCalls as plain
 use Rattle.factor.specs.Outcome.{Read, read}
@@ -15,7 +15,7 @@ unfoldable pub marked_solve : State → List ℕ → List Float → List Float �
 marked_solve st order rhs store out =
     call_by st.marks (marked_solve_tests st (length store) order (min (length rhs) (length out)) ++ (held_test (whole st) ∷ finite_test (whole st) rhs ∷ free_test st ∷ []))
     (ended_as st (plain.solve_call (whole st) order rhs store out))
-    (held_by st store out (plain.solve_call (without_frozen st) (take (cols st) order) (freeOf (marks_in st) rhs) (narrowed_in st store) (zeros (cols st))))
+    (held_by st store out (plain.solve_call (without_frozen st) (take (cols st) order) (free_of (marks_in st) rhs) (narrowed_in st store) (zeros (cols st))))
     (λ k. marked_ended (refused k) st store out)
 
 unfoldable pub marked_mul : State → List Float → List Float → MarkedEnded (Unit {0})

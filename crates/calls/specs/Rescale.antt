@@ -3,8 +3,8 @@ use Rattle.std.specs.Prelude.{ℕ, min, List, [], ◌∷◌, ◌++◌, length, r
 use Rattle.leaves.specs.Number.{one}
 use Rattle.leaves.specs.Reply.{Reply, answered, refused}
 use Rattle.leaves.specs.Tests.{Test}
-use Rattle.frozen.specs.Frozen.{freeOf, merged}
-use Rattle.factor.specs.Tests.{finite_test, finite_number, not_above}
+use Rattle.frozen.specs.Frozen.{free_of, merged}
+use Rattle.factor.specs.Tests.{finite_test, finite_not_nan, not_above}
 use Rattle.factor.specs.Outcome.{written}
 use Rattle.factor.specs.Outcome as outcome
 use Rattle.measures.specs.Rescale as plain
@@ -17,7 +17,7 @@ use Rattle.calls.specs.Outcome.{MarkedEnded, marked_ended, ended_as, narrowed_in
 
 abbrev pub marked_first_tests : State → ℕ → List Float → List Float → Float → List Test
 marked_first_tests st store diag x bound =
-    marked_room_tests st store (min (length diag) (length x)) ++ (finite_test (whole st) x ∷ finite_number bound ∷ (not_above bound, 7) ∷ free_test st ∷ [])
+    marked_room_tests st store (min (length diag) (length x)) ++ (finite_test (whole st) x ∷ finite_not_nan bound ∷ (not_above bound, 7) ∷ free_test st ∷ [])
 
 unfoldable pub marked_scaling_tests : State → Mode → ℕ → List Float → List Float → Float → List Test
 marked_scaling_tests st mode.FirstScaled store diag x bound = marked_first_tests st store diag x bound
@@ -44,5 +44,5 @@ unfoldable pub marked_scaling : State → Mode → List Float → List Float →
 marked_scaling st md diag x bound store =
     call_by st.marks (marked_scaling_tests st md (length store) diag x bound)
     (ended_as st (plain.scaling_call (whole st) md diag x bound store))
-    (scaled_by st md diag store (plain.scaling_call (without_frozen st) md (freeOf (marks_in st) diag) (freeOf (marks_in st) x) bound (narrowed_in st store)))
+    (scaled_by st md diag store (plain.scaling_call (without_frozen st) md (free_of (marks_in st) diag) (free_of (marks_in st) x) bound (narrowed_in st store)))
     (λ k. marked_ended (refused k) st store diag)

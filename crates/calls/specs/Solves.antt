@@ -2,7 +2,7 @@
 use Rattle.std.specs.Prelude.{ℕ, min, List, [], ◌∷◌, ◌++◌, length, take, Float}
 use Rattle.leaves.specs.Reply.{refused}
 use Rattle.leaves.specs.Square.{zeros}
-use Rattle.frozen.specs.Frozen.{freeOf}
+use Rattle.frozen.specs.Frozen.{free_of}
 use Rattle.factor.specs.Tests.{finite_test}
 use Rattle.factor.specs.Solves as plain
 use Rattle.calls.specs.declared.state.State.{State}
@@ -21,5 +21,5 @@ unfoldable pub marked_damped : State → List Float → List ℕ → List Float 
 marked_damped st diag order store out =
     call_by st.marks (marked_solve_tests st (length store) order (min (length diag) (length out)) ++ (finite_test (whole st) diag ∷ free_test st ∷ []))
     (ended_as st (plain.damped_call (whole st) diag order store out))
-    (widened_by st store out (plain.damped_call (without_frozen st) (freeOf (marks_in st) diag) (take (cols st) order) (narrowed_in st store) (zeros (cols st))))
+    (widened_by st store out (plain.damped_call (without_frozen st) (free_of (marks_in st) diag) (take (cols st) order) (narrowed_in st store) (zeros (cols st))))
     (λ k. marked_ended (refused k) st store out)

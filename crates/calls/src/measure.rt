@@ -5,7 +5,7 @@ ghost use Rattle.leaves.specs.Reply.{place_of, measured_of};
 ghost use Rattle.leaves.specs.Tests.{first_of};
 ghost use Rattle.factor.specs.Answers.{truth_of};
 ghost use Rattle.factor.specs.State.{store_need};
-ghost use Rattle.factor.specs.Tests.{finite_test, finite_number, not_above};
+ghost use Rattle.factor.specs.Tests.{finite_test, finite_not_nan, not_above};
 ghost use Rattle.measures.specs.Answers.{gradient_of};
 ghost use Rattle.measures.specs.Measures as plain;
 ghost use Rattle.calls.specs.State.{whole as wholeState, without_frozen as reducedState};
@@ -30,7 +30,7 @@ use measures::gradient::Gradient;
 // ---- the gradient
 
 fn check_gradient(st: State, store: usize, order: &[usize], bnorm: f64) -> u8
-    ensures { result ≡ first_of (marked_room_tests st store (length order.now) ++ (form_test st order.now ∷ finite_number bnorm ∷ (not_above bnorm, 7) ∷ free_test st ∷ [])) }
+    ensures { result ≡ first_of (marked_room_tests st store (length order.now) ++ (form_test st order.now ∷ finite_not_nan bnorm ∷ (not_above bnorm, 7) ∷ free_test st ∷ [])) }
 {
     let c = ordered(st, store, order.len(), order);
     if c != 0 {

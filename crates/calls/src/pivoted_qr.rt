@@ -4,7 +4,7 @@ ghost use Rattle.leaves.specs.Loop.{count_from};
 ghost use Rattle.leaves.specs.Reply.{ranged_of};
 ghost use Rattle.leaves.specs.Square.{zeros};
 ghost use Rattle.leaves.specs.Tests.{outside as outsideOf, first_of};
-ghost use Rattle.frozen.specs.Frozen.{marks_of, free_count, freeColumns};
+ghost use Rattle.frozen.specs.Frozen.{marks_of, free_count, free_columns};
 ghost use Rattle.frozen.specs.Narrowed.{spread_out};
 ghost use Rattle.factor.specs.State.{store_need, bench_need};
 ghost use Rattle.factor.specs.Outcome.{written};
@@ -98,7 +98,7 @@ fn check_factor(
 fn gather_columns(m: usize, n: usize, marks: u16, jacobian: &[f64], bench: &mut [f64])
     requires n_value { (outsideOf m n ≡ false) × (m * n ≤ length jacobian.now) }
     requires bench_len { length bench.old ≡ m * free_count (marks_of n marks) }
-    ensures { bench.new ≡ freeColumns m (marks_of n marks) jacobian.now }
+    ensures { bench.new ≡ free_columns m (marks_of n marks) jacobian.now }
 {
     if marks == 0 {
         copy_long(&jacobian[..m * n], bench);
@@ -119,7 +119,7 @@ fn fill_bench(
 )
     requires factorable { Factorable m n marks free jacobian.now residuals.now }
     requires free_in_bounds { bench_need m free ≤ length bench.old }
-    ensures { bench.new ≡ freeColumns m (marks_of n marks) jacobian.now ++ (take m residuals.now ++ drop (bench_need m free) bench.old) }
+    ensures { bench.new ≡ free_columns m (marks_of n marks) jacobian.now ++ (take m residuals.now ++ drop (bench_need m free) bench.old) }
 {
     let p = m * free;
     let q = p + m;

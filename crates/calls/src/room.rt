@@ -3,7 +3,7 @@
 ghost use Rattle.std.specs.Prelude.{◌≡◌, ◌≤◌, length, replicate};
 ghost use Rattle.leaves.specs.Number.{one};
 ghost use Rattle.leaves.specs.Square.{zeros};
-ghost use Rattle.frozen.specs.Frozen.{marks_of, free_count, freeOf, merged};
+ghost use Rattle.frozen.specs.Frozen.{marks_of, free_count, free_of, merged};
 ghost use Rattle.frozen.specs.Narrowed.{narrowed};
 ghost use Rattle.factor.specs.State.{store_need};
 ghost use Rattle.factor.specs.Room.{load, lay, rested, emptied};
@@ -39,7 +39,7 @@ pub(crate) fn narrow_in(n: usize, marks: u16, free: usize, store: &[f64], small:
 pub(crate) fn gather_in(n: usize, marks: u16, xs: &[f64], w: &mut [f64])
     requires n_in_bounds { n ≤ length xs.now }
     requires w_len { length w.old ≡ free_count (marks_of n marks) }
-    ensures { w.new ≡ freeOf (marks_of n marks) xs.now }
+    ensures { w.new ≡ free_of (marks_of n marks) xs.now }
 {
     gather_free(n, marks, xs, w);
 }

@@ -10,7 +10,7 @@ use measures::scaling::Scaling;
 use search::trust_region::Found;
 
 // marks: a bit for each column, column 0 the most significant of sixteen; set for a frozen column.
-#[derive(Drop)]
+#[derive(Clone, Copy)]
 pub struct State {
     pub m: usize,
     pub n: usize,
@@ -18,49 +18,49 @@ pub struct State {
     pub marks: u16,
 }
 
-#[derive(Drop)]
+#[derive(Clone, Copy)]
 pub struct FactorTold {
     pub answer: Ranged,
     pub state: State,
 }
 
-#[derive(Drop)]
+#[derive(Clone, Copy)]
 pub struct Told {
     pub answer: Done,
     pub state: State,
 }
 
-#[derive(Drop)]
+#[derive(Clone, Copy)]
 pub struct GradientTold {
     pub answer: Gradient,
     pub state: State,
 }
 
-#[derive(Drop)]
+#[derive(Clone, Copy)]
 pub struct MeasuredTold {
     pub answer: Measured,
     pub state: State,
 }
 
-#[derive(Drop)]
+#[derive(Clone, Copy)]
 pub struct PlaceTold {
     pub answer: Place,
     pub state: State,
 }
 
-#[derive(Drop)]
+#[derive(Clone, Copy)]
 pub struct TruthTold {
     pub answer: Truth,
     pub state: State,
 }
 
-#[derive(Drop)]
+#[derive(Clone, Copy)]
 pub struct ScalingTold {
     pub answer: Scaling,
     pub state: State,
 }
 
-#[derive(Drop)]
+#[derive(Clone, Copy)]
 pub struct SearchTold {
     pub answer: Found,
     pub state: State,

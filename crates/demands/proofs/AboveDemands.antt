@@ -26,8 +26,8 @@ use Rattle.calls.specs.Measures.{marked_gradient, marked_above_tests, marked_abo
 use Rattle.demands.specs.Above.{before_non_finite, any_above, free_measures}
 use Rattle.demands.specs.Calls.{reply_number}
 use Rattle.demands.specs.Eight.{column_measures}
-use Rattle.demands.proofs.AboveLaws.{above-yes, above-no, above-eight, above-as-gradient, above-beside-eight}
-use Rattle.demands.proofs.FrozenAbove.{frozen-above-agrees, frozen-above-yes, frozen-above-no, frozen-above-eight, frozen-above-as-gradient, frozen-above-beside-eight}
+use Rattle.demands.proofs.AboveLaws.{above_yes, above_no, above_eight, above_as_gradient, above_beside_eight}
+use Rattle.demands.proofs.FrozenAbove.{frozen_above-agrees, frozen_above_yes, frozen_above_no, frozen_above_eight, frozen_above_as_gradient, frozen_above_beside_eight}
 
 -- ==== Without marks
 
@@ -35,7 +35,7 @@ use Rattle.demands.proofs.FrozenAbove.{frozen-above-agrees, frozen-above-yes, fr
 -- and not below zero; its tests with any limit, and what it leaves then, are in `demand_1_refused` and `demand_1_unchanged`.
 pub demand_1_above_refused : (st : Plain) (order : List ℕ) (bnorm limit : Float) (store : List Float) → is_finite limit ≡ true → below limit ≡ false → (k : ℕ) → 0 < k → k < 8
     → (reply_number (gradient_call st order bnorm store).reply ≡ k) ↔ (reply_number (above_call st order bnorm limit store).reply ≡ k)
-demand_1_above_refused = above-as-gradient
+demand_1_above_refused = above_as_gradient
 
 -- "Yes meaning that the measure is greater than the limit. Wherever the full gradient is answered, the two agree exactly."
 pub demand_2_above_agrees : (st : Plain) (order : List ℕ) (bnorm limit : Float) (store : List Float) (g : Float) → (gradient_call st order bnorm store).reply ≡ answered g
@@ -47,53 +47,53 @@ demand_2_above_agrees = above-agrees-call
 pub demand_2_above_where_refused : (st : Plain) (order : List ℕ) (bnorm limit : Float) (store : List Float) → is_finite limit ≡ true → below limit ≡ false
     → (gradient_call st order bnorm store).reply ≡ refused 8
     → (above_call st order bnorm limit store).reply ≡ cond (any_above limit (before_non_finite (column_measures st order bnorm (load st.n store)))) (answered true) (refused 8)
-demand_2_above_where_refused = above-beside-eight
+demand_2_above_where_refused = above_beside_eight
 
 -- Whatever the gradient is: where none of its own tests holds, the question says yes exactly then; it is refused 8 exactly when none of those is above the limit and there
--- is a non-finite one; and it says no exactly when there is none, and no measure is above the limit. The same by how the list of measures splits: `above-says-yes`,
--- `above-refused-eight` and `above-says-no` in `crates/measures/proofs/Aboves.antt`, with `yes-splits`, `eight-splits` and `no-splits` in `proofs/AboveLaws.antt`.
+-- is a non-finite one; and it says no exactly when there is none, and no measure is above the limit. The same by how the list of measures splits: `above_says_yes`,
+-- `above-refused_eight` and `above_says_no` in `crates/measures/proofs/Aboves.antt`, with `yes_splits`, `eight_splits` and `no_splits` in `proofs/AboveLaws.antt`.
 module _ (st : Plain) (order : List ℕ) (bnorm limit : Float) (store : List Float) where
   abbrev asked : List Float
   asked = column_measures st order bnorm (load st.n store)
 
-  pub demand-2-above-yes : ((above_call st order bnorm limit store).reply ≡ answered true) ↔ (NoneHold (above_tests st (length store) order bnorm limit) × (any_above limit (before_non_finite asked) ≡ true))
-  demand-2-above-yes = above-yes st order bnorm limit store
+  pub demand_2_above_yes : ((above_call st order bnorm limit store).reply ≡ answered true) ↔ (NoneHold (above_tests st (length store) order bnorm limit) × (any_above limit (before_non_finite asked) ≡ true))
+  demand_2_above_yes = above_yes st order bnorm limit store
 
-  pub demand-2-above-eight : ((above_call st order bnorm limit store).reply ≡ refused 8)
+  pub demand_2_above_eight : ((above_call st order bnorm limit store).reply ≡ refused 8)
       ↔ (NoneHold (above_tests st (length store) order bnorm limit) × ((any_above limit (before_non_finite asked) ≡ false) × (all_finite asked ≡ false)))
-  demand-2-above-eight = above-eight st order bnorm limit store
+  demand_2_above_eight = above_eight st order bnorm limit store
 
-  pub demand-2-above-no : ((above_call st order bnorm limit store).reply ≡ answered false)
+  pub demand_2_above_no : ((above_call st order bnorm limit store).reply ≡ answered false)
       ↔ (NoneHold (above_tests st (length store) order bnorm limit) × ((any_above limit asked ≡ false) × (all_finite asked ≡ true)))
-  demand-2-above-no = above-no st order bnorm limit store
+  demand_2_above_no = above_no st order bnorm limit store
 
 -- ==== With marks (#108): the same beside the gradient with marks, by the measures of the free columns; with no mark, `frozen_none` has the above.
 
 pub demand_1_frozen_above_refused : (st : State) (order : List ℕ) (bnorm limit : Float) (store : List Float) → (st.marks ≡ 0 → ⊥) → is_finite limit ≡ true → below limit ≡ false
     → (k : ℕ) → 0 < k → (k ≡ 8 → ⊥) → (reply_number (marked_gradient st order bnorm store).reply ≡ k) ↔ (reply_number (marked_above st order bnorm limit store).reply ≡ k)
-demand_1_frozen_above_refused = frozen-above-as-gradient
+demand_1_frozen_above_refused = frozen_above_as_gradient
 
 -- for any number of marks, 0 too
 pub demand_2_frozen_above_agrees : (st : State) (order : List ℕ) (bnorm limit : Float) (store : List Float) (g : Float) → (marked_gradient st order bnorm store).reply ≡ answered g
     → is_finite limit ≡ true → below limit ≡ false → (marked_above st order bnorm limit store).reply ≡ answered (lt limit g)
-demand_2_frozen_above_agrees = frozen-above-agrees
+demand_2_frozen_above_agrees = frozen_above-agrees
 
 pub demand_2_frozen_above_where_refused : (st : State) (order : List ℕ) (bnorm limit : Float) (store : List Float) → (st.marks ≡ 0 → ⊥) → is_finite limit ≡ true → below limit ≡ false
     → (marked_gradient st order bnorm store).reply ≡ refused 8
     → (marked_above st order bnorm limit store).reply ≡ cond (any_above limit (before_non_finite (free_measures st order bnorm store))) (answered true) (refused 8)
-demand_2_frozen_above_where_refused = frozen-above-beside-eight
+demand_2_frozen_above_where_refused = frozen_above_beside_eight
 
 module _ (st : State) (order : List ℕ) (bnorm limit : Float) (store : List Float) (some : st.marks ≡ 0 → ⊥) where
-  pub demand-2-frozen-above-yes : ((marked_above st order bnorm limit store).reply ≡ answered true)
+  pub demand_2_frozen_above_yes : ((marked_above st order bnorm limit store).reply ≡ answered true)
       ↔ (NoneHold (marked_above_tests st (length store) order bnorm limit) × (any_above limit (before_non_finite (free_measures st order bnorm store)) ≡ true))
-  demand-2-frozen-above-yes = frozen-above-yes st order bnorm limit store some
+  demand_2_frozen_above_yes = frozen_above_yes st order bnorm limit store some
 
-  pub demand-2-frozen-above-eight : ((marked_above st order bnorm limit store).reply ≡ refused 8)
+  pub demand_2_frozen_above_eight : ((marked_above st order bnorm limit store).reply ≡ refused 8)
       ↔ (NoneHold (marked_above_tests st (length store) order bnorm limit)
       × ((any_above limit (before_non_finite (free_measures st order bnorm store)) ≡ false) × (all_finite (free_measures st order bnorm store) ≡ false)))
-  demand-2-frozen-above-eight = frozen-above-eight st order bnorm limit store some
+  demand_2_frozen_above_eight = frozen_above_eight st order bnorm limit store some
 
-  pub demand-2-frozen-above-no : ((marked_above st order bnorm limit store).reply ≡ answered false)
+  pub demand_2_frozen_above_no : ((marked_above st order bnorm limit store).reply ≡ answered false)
       ↔ (NoneHold (marked_above_tests st (length store) order bnorm limit)
       × ((any_above limit (free_measures st order bnorm store) ≡ false) × (all_finite (free_measures st order bnorm store) ≡ true)))
-  demand-2-frozen-above-no = frozen-above-no st order bnorm limit store some
+  demand_2_frozen_above_no = frozen_above_no st order bnorm limit store some

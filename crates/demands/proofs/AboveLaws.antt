@@ -21,7 +21,7 @@ use Rattle.factor.specs.Tests.{below}
 use Rattle.factor.specs.declared.state.State.{State as Plain}
 use Rattle.measures.specs.Gradient.{above as asks, gradient as measure, above_limit}
 use Rattle.measures.specs.Measures.{gradient_call, above_tests, above_call}
-use Rattle.measures.proofs.Aboves.{NoneAbove, EndedBy, Above, NotFinite, above-says-yes, above-refused-eight, above-says-no, above_where_refused}
+use Rattle.measures.proofs.Aboves.{NoneAbove, EndedBy, Above, NotFinite, above_says_yes, above-refused_eight, above_says_no, above_where_refused}
 use Rattle.measures.proofs.Measured.{gradient_tests, gradient-worked, above-refused, above-worked}
 use Rattle.measures.proofs.gradient.Gradients.{above_not, above_is, above_on}
 use Rattle.demands.specs.Above.{before_non_finite, any_above}
@@ -70,17 +70,17 @@ module _ (limit : Float) (ms : List Float) where
   abbrev some : Bool
   some = any_above limit (before_non_finite ms)
 
-  pub yes-splits : (some ≡ true) ↔ EndedBy limit (Above limit) ms
-  yes-splits = let w = above-says-yes limit ms in (λ h. w.0 (asked_is limit ms ∙ rw h), λ r. yes_back some (all_finite ms) (sym (asked_is limit ms) ∙ w.1 r))
+  pub yes_splits : (some ≡ true) ↔ EndedBy limit (Above limit) ms
+  yes_splits = let w = above_says_yes limit ms in (λ h. w.0 (asked_is limit ms ∙ rw h), λ r. yes_back some (all_finite ms) (sym (asked_is limit ms) ∙ w.1 r))
 
-  pub eight-splits : ((some ≡ false) × (all_finite ms ≡ false)) ↔ EndedBy limit NotFinite ms
-  eight-splits =
-      let w = above-refused-eight limit ms in
+  pub eight_splits : ((some ≡ false) × (all_finite ms ≡ false)) ↔ EndedBy limit NotFinite ms
+  eight_splits =
+      let w = above-refused_eight limit ms in
       (λ h. w.0 (asked_is limit ms ∙ rw (h.0, h.1)), λ r. eight_back some (all_finite ms) (sym (asked_is limit ms) ∙ w.1 r))
 
-  pub no-splits : ((some ≡ false) × (all_finite ms ≡ true)) ↔ NoneAbove limit ms
-  no-splits =
-      let w = above-says-no limit ms in
+  pub no_splits : ((some ≡ false) × (all_finite ms ≡ true)) ↔ NoneAbove limit ms
+  no_splits =
+      let w = above_says_no limit ms in
       (λ h. w.0 (asked_is limit ms ∙ rw (h.0, h.1)), λ r. no_back some (all_finite ms) (sym (asked_is limit ms) ∙ w.1 r))
 
 never_no : (some all : Bool) → (judged some all ≡ answered true) ⊎ (judged some all ≡ refused 8) → judged some all ≡ cond some (answered true) (refused 8)
@@ -99,22 +99,22 @@ module _ (tests : List Test) (q : numbered tests ≡ true) (limit : Float) (ms :
       by true e = eqb-true (first_of tests) 0 e
       by false e = refused-answered (sym (s (eqb-false (first_of tests) 0 e)) ∙ h)
 
-  pub says-yes : (x ≡ answered true) ↔ (NoneHold tests × (any_above limit (before_non_finite ms) ≡ true))
-  says-yes = (
+  pub says_yes : (x ≡ answered true) ↔ (NoneHold tests × (any_above limit (before_non_finite ms) ≡ true))
+  says_yes = (
     λ h. let z = passes true h in ((passed_iff tests q).0 z, yes_back (any_above limit (before_non_finite ms)) (all_finite ms) (sym (p z) ∙ h)),
     λ w. p ((passed_iff tests q).1 w.0) ∙ rw w.1,
   )
 
-  pub says-no : (x ≡ answered false) ↔ (NoneHold tests × ((any_above limit ms ≡ false) × (all_finite ms ≡ true)))
-  says-no = (
+  pub says_no : (x ≡ answered false) ↔ (NoneHold tests × ((any_above limit ms ≡ false) × (all_finite ms ≡ true)))
+  says_no = (
     λ h. let z = passes false h in
         let w = no_back (any_above limit (before_non_finite ms)) (all_finite ms) (sym (p z) ∙ h) in
         ((passed_iff tests q).0 z, (ap (any_above limit) (sym (all_before ms w.1)) ∙ w.0, w.1)),
     λ w. p ((passed_iff tests q).1 w.0) ∙ rw (all_before ms w.1.1, w.1.0, w.1.1),
   )
 
-  pub says-eight : (x ≡ refused 8 → NoneHold tests) → (x ≡ refused 8) ↔ (NoneHold tests × ((any_above limit (before_non_finite ms) ≡ false) × (all_finite ms ≡ false)))
-  says-eight n = (
+  pub says_eight : (x ≡ refused 8 → NoneHold tests) → (x ≡ refused 8) ↔ (NoneHold tests × ((any_above limit (before_non_finite ms) ≡ false) × (all_finite ms ≡ false)))
+  says_eight n = (
     λ h. (n h, eight_back (any_above limit (before_non_finite ms)) (all_finite ms) (sym (p ((passed_iff tests q).1 (n h))) ∙ h)),
     λ w. p ((passed_iff tests q).1 w.0) ∙ rw (w.1.0, w.1.1),
   )
@@ -131,21 +131,21 @@ module _ (st : Plain) (order : List ℕ) (bnorm limit : Float) (store : List Flo
   unfolding above_limit
   passed_is z = ap (λ (t : Told Bool). t.reply) (sym (above-worked st order bnorm limit store refl z refl refl)) ∙ asked_is limit ms
 
-  stopped-is : (first_of tests ≡ 0 → ⊥) → (above_call st order bnorm limit store).reply ≡ refused (first_of tests)
-  stopped-is h = ap (λ (t : Told Bool). t.reply) (sym (above-refused st order bnorm limit store refl h))
+  stopped_is : (first_of tests ≡ 0 → ⊥) → (above_call st order bnorm limit store).reply ≡ refused (first_of tests)
+  stopped_is h = ap (λ (t : Told Bool). t.reply) (sym (above-refused st order bnorm limit store refl h))
 
-  eight-passed : (above_call st order bnorm limit store).reply ≡ refused 8 → NoneHold tests
+  eight_passed : (above_call st order bnorm limit store).reply ≡ refused 8 → NoneHold tests
   unfolding perform_store shortest_of further_of
-  eight-passed h = ((refused_eight (basic.above bnorm limit) st order store).0 (ap reply_number h)).0
+  eight_passed h = ((refused_eight (basic.above bnorm limit) st order store).0 (ap reply_number h)).0
 
-  pub above-yes : ((above_call st order bnorm limit store).reply ≡ answered true) ↔ (NoneHold tests × (any_above limit (before_non_finite ms) ≡ true))
-  above-yes = says-yes tests refl limit ms (above_call st order bnorm limit store).reply passed_is stopped-is
+  pub above_yes : ((above_call st order bnorm limit store).reply ≡ answered true) ↔ (NoneHold tests × (any_above limit (before_non_finite ms) ≡ true))
+  above_yes = says_yes tests refl limit ms (above_call st order bnorm limit store).reply passed_is stopped_is
 
-  pub above-no : ((above_call st order bnorm limit store).reply ≡ answered false) ↔ (NoneHold tests × ((any_above limit ms ≡ false) × (all_finite ms ≡ true)))
-  above-no = says-no tests refl limit ms (above_call st order bnorm limit store).reply passed_is stopped-is
+  pub above_no : ((above_call st order bnorm limit store).reply ≡ answered false) ↔ (NoneHold tests × ((any_above limit ms ≡ false) × (all_finite ms ≡ true)))
+  above_no = says_no tests refl limit ms (above_call st order bnorm limit store).reply passed_is stopped_is
 
-  pub above-eight : ((above_call st order bnorm limit store).reply ≡ refused 8) ↔ (NoneHold tests × ((any_above limit (before_non_finite ms) ≡ false) × (all_finite ms ≡ false)))
-  above-eight = says-eight tests refl limit ms (above_call st order bnorm limit store).reply passed_is stopped-is eight-passed
+  pub above_eight : ((above_call st order bnorm limit store).reply ≡ refused 8) ↔ (NoneHold tests × ((any_above limit (before_non_finite ms) ≡ false) × (all_finite ms ≡ false)))
+  above_eight = says_eight tests refl limit ms (above_call st order bnorm limit store).reply passed_is stopped_is eight_passed
 
   -- beside the gradient, where the limit is finite and not below zero
   module _ (f : is_finite limit ≡ true) (b : below limit ≡ false) where
@@ -153,10 +153,10 @@ module _ (st : Plain) (order : List ℕ) (bnorm limit : Float) (store : List Flo
     unfolding first_of
     same_first = rw (f, b)
 
-    pub above-as-gradient : (k : ℕ) → 0 < k → k < 8
+    pub above_as_gradient : (k : ℕ) → 0 < k → k < 8
         → (reply_number (gradient_call st order bnorm store).reply ≡ k) ↔ (reply_number (above_call st order bnorm limit store).reply ≡ k)
     unfolding perform_store shortest_of further_of
-    above-as-gradient k p q =
+    above_as_gradient k p q =
         let g = refused_early (basic.gradient bnorm) st order store k p q in
         let a = refused_early (basic.above bnorm limit) st order store k p q in
         let ts = gradient_tests st (length store) order bnorm in (
@@ -164,10 +164,10 @@ module _ (st : Plain) (order : List ℕ) (bnorm limit : Float) (store : List Flo
           λ h. g.1 ((refused_iff ts k p).0 (sym same_first ∙ (refused_iff tests k p).1 (a.0 h))),
         )
 
-    pub above-beside-eight : (gradient_call st order bnorm store).reply ≡ refused 8
+    pub above_beside_eight : (gradient_call st order bnorm store).reply ≡ refused 8
         → (above_call st order bnorm limit store).reply ≡ cond (any_above limit (before_non_finite ms)) (answered true) (refused 8)
     unfolding perform_store shortest_of further_of above_limit
-    above-beside-eight h =
+    above_beside_eight h =
         let ss = gather (take st.n order) (load st.n store).norms in
         let n = ((refused_eight (basic.gradient bnorm) st order store).0 (ap reply_number h)).0 in
         let z = (passed_iff (gradient_tests st (length store) order bnorm) refl).1 n in

@@ -30,11 +30,11 @@ use Rattle.factor.specs.declared.state.Held.TheVariants as held
 use Rattle.factor.specs.declared.state.State.{State}
 use Rattle.factor.proofs.Passed.{factor_passed}
 use Rattle.leaves.proofs.Squares.{columns-length}
-use Rattle.factor.proofs.Shapes.{square-filled, order-listed}
+use Rattle.factor.proofs.Shapes.{square_filled, order_listed}
 use Rattle.leaves.proofs.Joined.{columns-same}
 use Rattle.factor.proofs.Stores.{transformed_long}
 use Rattle.demands.proofs.Keeping.{settling, laws}
-use Rattle.demands.proofs.Histories.{run-size, run-orders, history}
+use Rattle.demands.proofs.Histories.{run-size, run_orders, history}
 use Rattle.demands.specs.inner.Helds.{is_store_held}
 use Rattle.demands.specs.Alike.{Alike, HeldAlike, ToldAlike, SameContents}
 
@@ -50,14 +50,14 @@ module _ (n : ℕ) (front a b : List Float) (h : length front ≡ n * n + 4 * n)
       let d = length-drop (n * n + k * n) front in
       ap (λ (z : List Float). take n z) (drop-append-le (n * n + k * n) front x (omega arith)) ∙ take-append-le n (drop (n * n + k * n) front) x (omega arith)
 
-  part-alike : (k : ℕ) → n * n + k * n + n ≤ length front → part n k (front ++ a) ≡ part n k (front ++ b)
-  part-alike k l = part_front k a l ∙ sym (part_front k b l)
+  part_alike : (k : ℕ) → n * n + k * n + n ≤ length front → part n k (front ++ a) ≡ part n k (front ++ b)
+  part_alike k l = part_front k a l ∙ sym (part_front k b l)
 
-  pub surplus-alike : Alike (load n (front ++ a)) (load n (front ++ b)) × HeldAlike (load n (front ++ a)) (load n (front ++ b))
+  pub surplus_alike : Alike (load n (front ++ a)) (load n (front ++ b)) × HeldAlike (load n (front ++ a)) (load n (front ++ b))
   unfolding load
-  surplus-alike = (
-    record { upper = ap (λ (c : List (List Float)). uppers_from 0 c) columns-alike; qtb = part-alike 0 (omega arith); norms = part-alike 1 (omega arith) },
-    record { below = ap (λ (c : List (List Float)). belows_from 0 c) columns-alike; ldiag = part-alike 2 (omega arith) },
+  surplus_alike = (
+    record { upper = ap (λ (c : List (List Float)). uppers_from 0 c) columns-alike; qtb = part_alike 0 (omega arith); norms = part_alike 1 (omega arith) },
+    record { below = ap (λ (c : List (List Float)). belows_from 0 c) columns-alike; ldiag = part_alike 2 (omega arith) },
   )
 
 -- LAW: the room of an accepted factoring, by two surpluses. `SquareLong` is what the working of a factoring ensures.
@@ -71,20 +71,20 @@ module _ (m n : ℕ) (norms : List Float) (f : Reduction) (wide : length norms �
       let z : length (zeros n) ≡ n = length-replicate n plus_zero in
       simp length-append (omega arith)
 
-  front-laid : (a : List Float) → lay (factored_room m n norms f a) ≡ front ++ a
+  front_laid : (a : List Float) → lay (factored_room m n norms f a) ≡ front ++ a
   unfolding lay factored_room
-  front-laid a = simp append_assoc
+  front_laid a = simp append_assoc
 
-  laid-long : (a : List Float) → store_need n ≤ length (lay (factored_room m n norms f a))
-  laid-long a = rw (front-laid a, length-append front a, front_long) (omega arith)
+  laid_long : (a : List Float) → store_need n ≤ length (lay (factored_room m n norms f a))
+  laid_long a = rw (front_laid a, length-append front a, front_long) (omega arith)
 
-  pub laid-length : (a : List Float) → length (lay (factored_room m n norms f a)) ≡ store_need n + length a
-  laid-length a = rw (front-laid a, length-append front a, front_long)
+  pub laid_length : (a : List Float) → length (lay (factored_room m n norms f a)) ≡ store_need n + length a
+  laid_length a = rw (front_laid a, length-append front a, front_long)
 
   pub factored-alike : (a b : List Float) → (let s = lay (factored_room m n norms f a) in
       let t = lay (factored_room m n norms f b) in
       Alike (load n s) (load n t) × HeldAlike (load n s) (load n t))
-  factored-alike a b = rw (front-laid a, front-laid b) (surplus-alike n front a b front_long)
+  factored-alike a b = rw (front_laid a, front_laid b) (surplus_alike n front a b front_long)
 
 -- ---- an accepted factoring
 module _ (m n : ℕ) (jacobian residuals : List Float) where
@@ -97,7 +97,7 @@ module _ (m n : ℕ) (jacobian residuals : List Float) where
   pub record Accepted (s : List Float) (order : List ℕ) (g : Factored) : Type 0 where
     pub state : g.state ≡ record { m = m; n = n; held = held.Nothing }
     pub store : g.store ≡ lay (factored_room m n norms whole (drop (store_need n) s))
-    pub order-list : g.order ≡ whole.order ++ drop n order
+    pub order_list : g.order ≡ whole.order ++ drop n order
 
   module _ (s : List Float) (order : List ℕ) (bench : List Float) where
     abbrev pub tested : ℕ
@@ -111,7 +111,7 @@ module _ (m n : ℕ) (jacobian residuals : List Float) where
           | true ↦ factored (answered (ranges_of (measured m n (columns m n jacobian) (take m residuals)))) (record { m = m; n = n; held = held.Nothing }) (lay (factored_room m n norms whole (drop (store_need n) s))) (whole.order ++ drop n order) (written (zeros (bench_need m n)) bench)
           | false ↦ factored (refused 8) empty (written (zeros (store_need n)) s) (count_from n 0 ++ drop n order) (written (zeros (bench_need m n)) bench)
         ] in (f : Ranges) → g.reply ≡ answered f → Accepted s order g)
-        by true f h = record { state = refl; store = refl; order-list = refl }
+        by true f h = record { state = refl; store = refl; order_list = refl }
         by false f h = refused-answered h
 
     -- LAW: what an accepted factoring leaves
@@ -135,10 +135,10 @@ module _ (m n : ℕ) (jacobian residuals : List Float) where
       let g = accepted s o b x in
       let h = accepted t p d y in
       let z = factor_passed m n jacobian residuals (length s) (length o) (length b) g.0 in
-      let sl = square-filled m n jacobian (take m residuals) z.jacobian_long (length-take-le m residuals z.residuals_long) in
+      let sl = square_filled m n jacobian (take m residuals) z.jacobian_long (length-take-le m residuals z.residuals_long) in
       let w : length norms ≡ n = length-map (columns m n jacobian) norm ∙ columns-length m n jacobian in
       let a = factored-alike m n norms whole w sl (drop (store_need n) s) (drop (store_need n) t) in
-      let l = laid-long m n norms whole w sl in (
+      let l = laid_long m n norms whole w sl in (
         rw (g.1.state, g.1.store, h.1.store) (record {
           long_left = l (drop (store_need n) s);
           long_right = l (drop (store_need n) t);
@@ -157,8 +157,8 @@ module _ (m n : ℕ) (jacobian residuals : List Float) where
       let g = accepted s o b x in
       let h = accepted t p d y in
       let z = factor_passed m n jacobian residuals (length s) (length o) (length b) g.0 in
-      let l = order-listed m n jacobian (take m residuals) z.jacobian_long (length-take-le m residuals z.residuals_long) in
-      rw (g.1.order-list, h.1.order-list)
+      let l = order_listed m n jacobian (take m residuals) z.jacobian_long (length-take-le m residuals z.residuals_long) in
+      rw (g.1.order_list, h.1.order_list)
       (longer (drop n o) l, longer (drop n p) l, take_at whole.order (drop n o) n l ∙ sym (take_at whole.order (drop n p) n l))
     where
       longer : (a : List ℕ) → length whole.order ≡ n → n ≤ length (whole.order ++ a)
@@ -180,11 +180,11 @@ module _ (m n : ℕ) (jacobian residuals s t : List Float) (o p : List ℕ) (b d
   abbrev pub other : Factored
   other = factor_call m n jacobian residuals t p d
 
-  pub as-fresh : {f g : Ranges} → one.reply ≡ answered f → other.reply ≡ answered g → (cs : List StoreCall) (c : StoreCall)
+  pub as_fresh : {f g : Ranges} → one.reply ≡ answered f → other.reply ≡ answered g → (cs : List StoreCall) (c : StoreCall)
       → (let x = run perform_store one.order cs one.state one.store in
       let y = run perform_store other.order (latest perform_store one.order settling [] cs one.state one.store) other.state other.store in
       ToldAlike (perform_store c x.0 one.order x.1) (perform_store c y.0 other.order y.1))
-  as-fresh a e cs c =
+  as_fresh a e cs c =
       let w = refactored m n jacobian residuals s t o p b d a e in
       let v = reordered m n jacobian residuals s t o p b d a e in
       let last = latest perform_store one.order settling [] cs one.state one.store in
@@ -194,7 +194,7 @@ module _ (m n : ℕ) (jacobian residuals s t : List Float) (o p : List ℕ) (b d
       let same = subst (λ (i : ℕ). take i one.order ≡ take i other.order) k v.2 in
       let h = factor_history one.order one.state one.store other.store w.2 w.0 cs c in
       let x = run perform_store one.order cs one.state one.store in
-      let move = run-orders perform_store is_store_held settling laws one.order other.order last one.state other.store lo lp same in
+      let move = run_orders perform_store is_store_held settling laws one.order other.order last one.state other.store lo lp same in
       let y = run perform_store other.order last one.state other.store in
       let j = run-size perform_store is_store_held settling laws other.order last one.state other.store in
       let next : perform_store c y.0 one.order y.1 ≡ perform_store c y.0 other.order y.1 =

@@ -34,19 +34,19 @@ module _ (st : State) (order : List ℕ) (diag : List Float) (radius lambda : Fl
   step = take st.n (search_call st order diag radius lambda store out).out
 
   -- every number of the step is finite, and nothing else of the output is written
-  pub answered-step : (all_finite step ≡ true) × (drop st.n (search_call st order diag radius lambda store out).out ≡ drop st.n out)
-  answered-step = (told.step-finite st order diag radius lambda store out a h, told.surplus-kept st order diag radius lambda store out a h)
+  pub answered_step : (all_finite step ≡ true) × (drop st.n (search_call st order diag radius lambda store out).out ≡ drop st.n out)
+  answered_step = (told.step_finite st order diag radius lambda store out a h, told.surplus_kept st order diag radius lambda store out a h)
 
   -- lambda is finite and not below zero, and there are at most ten trials, none where lambda is zero
-  pub answered-lambda : (is_finite a.0.lambda ≡ true) × (lt a.0.lambda plus_zero ≡ false)
-  answered-lambda = (told.lambda_finite st order diag radius lambda store out a h, told.lambda_not_below st order diag radius lambda store out a h)
+  pub answered_lambda : (is_finite a.0.lambda ≡ true) × (lt a.0.lambda plus_zero ≡ false)
+  answered_lambda = (told.lambda_finite st order diag radius lambda store out a h, told.lambda_not_below st order diag radius lambda store out a h)
 
   pub answered-trials : (a.0.trials ≤ 10) × (le overshoot (band radius) ≡ true → a.0.trials ≡ 0)
-  answered-trials = (told.trials-few st order diag radius lambda store out a h, told.no_trial st order diag radius lambda store out a h)
+  answered-trials = (told.trials_few st order diag radius lambda store out a h, told.no_trial st order diag radius lambda store out a h)
 
   -- the norm is finite, and is the norm of scaling times step; stopped `within`, it is within a tenth of the radius of it
-  pub answered-norm : (is_finite a.0.dp_norm ≡ true) × (a.0.dp_norm ≡ norm (product_all step (take st.n diag)))
-  answered-norm = (told.norm_finite st order diag radius lambda store out a h, told.norm-of-step st order diag radius lambda store out a h)
+  pub answered_norm : (is_finite a.0.dp_norm ≡ true) × (a.0.dp_norm ≡ norm (product_all step (take st.n diag)))
+  answered_norm = (told.norm_finite st order diag radius lambda store out a h, told.norm_of_step st order diag radius lambda store out a h)
 
   pub answered-within : ending (run_of asked lambda) ≡ inl within → le (abs_of (sub binary64 a.0.dp_norm radius)) (band radius) ≡ true
   answered-within = told.within-band st order diag radius lambda store out a h

@@ -18,7 +18,7 @@ use Rattle.factor.specs.Factoring.{Factored, factor_tests, finite_room, factor_w
 use Rattle.demands.specs.Calls.{run, latest}
 use Rattle.factor.specs.declared.state.State.{State}
 use Rattle.demands.proofs.Tabled as base-table
-use Rattle.demands.proofs.Histories.{run-size, run-orders, run-keeps, history}
+use Rattle.demands.proofs.Histories.{run-size, run_orders, run_keeps, history}
 use Rattle.demands.proofs.Alikes.{accepted, refactored, reordered}
 use Rattle.demands.specs.History.{Call, search, Outcome, of_base_outcome, of_search, perform, settling}
 use Rattle.demands.specs.History as any
@@ -30,7 +30,7 @@ use Rattle.demands.specs.inner.Helds.{is_held}
 
 -- LAW: whatever the store, after any run R with its diagonal, qt_b, norms and surplus are bit for bit what they were.
 pub never_changed : (order : List ℕ) (cs : List Call) (st : State) (s : List Float) → Kept (load st.n s) (load st.n (run perform order cs st s).1)
-never_changed order cs st s = run-keeps perform is_held settling laws order cs st s
+never_changed order cs st s = run_keeps perform is_held settling laws order cs st s
 
 -- LAW: two stores with the same in them but work and surplus
 pub any_history : (order : List ℕ) (st : State) (s t : List Float) → is_empty st.held ≡ false → SameContents st s t → (cs : List Call) (c : Call)
@@ -48,11 +48,11 @@ module _ (m n : ℕ) (jacobian residuals s t : List Float) (o p : List ℕ) (b d
   abbrev pub other : Factored
   other = factor_call m n jacobian residuals t p d
 
-  pub as-fresh : {f g : Ranges} → one.reply ≡ answered f → other.reply ≡ answered g → (cs : List Call) (c : Call)
+  pub as_fresh : {f g : Ranges} → one.reply ≡ answered f → other.reply ≡ answered g → (cs : List Call) (c : Call)
       → (let x = run perform one.order cs one.state one.store in
       let y = run perform other.order (latest perform one.order settling [] cs one.state one.store) other.state other.store in
       ToldAlike (perform c x.0 one.order x.1) (perform c y.0 other.order y.1))
-  as-fresh a e cs c =
+  as_fresh a e cs c =
       let w = refactored m n jacobian residuals s t o p b d a e in
       let v = reordered m n jacobian residuals s t o p b d a e in
       let last = latest perform one.order settling [] cs one.state one.store in
@@ -62,7 +62,7 @@ module _ (m n : ℕ) (jacobian residuals s t : List Float) (o p : List ℕ) (b d
       let same = subst (λ (i : ℕ). take i one.order ≡ take i other.order) k v.2 in
       let h = any_history one.order one.state one.store other.store w.2 w.0 cs c in
       let x = run perform one.order cs one.state one.store in
-      let move = run-orders perform is_held settling laws one.order other.order last one.state other.store lo lp same in
+      let move = run_orders perform is_held settling laws one.order other.order last one.state other.store lo lp same in
       let y = run perform other.order last one.state other.store in
       let j = run-size perform is_held settling laws other.order last one.state other.store in
       let next : perform c y.0 one.order y.1 ≡ perform c y.0 other.order y.1 =
@@ -112,16 +112,16 @@ module _ (m n : ℕ) (jacobian residuals store : List Float) (order : List ℕ) 
   unfolding factor_worked
   worked-empty j h = chosen (finite_room _) _ _ (λ i e. answered-refused e) refl h
 
-  pub refused-empties : (k : ℕ) → tried.reply ≡ refused k → tried.state ≡ empty
+  pub refused_empties : (k : ℕ) → tried.reply ≡ refused k → tried.state ≡ empty
   unfolding factor_call
-  refused-empties k h = chosen (eqb (first_of (factor_tests m n jacobian residuals (length store) (length order) (length bench))) 0) _ _ worked-empty refl h
+  refused_empties k h = chosen (eqb (first_of (factor_tests m n jacobian residuals (length store) (length order) (length bench))) 0) _ _ worked-empty refl h
 
   -- LAW: then any run leaves what the factoring left, and every call answers 5 and changes nothing
-  pub after-refused : (k : ℕ) → tried.reply ≡ refused k → (cs : List Call) (c : Call)
+  pub after_refused : (k : ℕ) → tried.reply ≡ refused k → (cs : List Call) (c : Call)
       → (let x = run perform tried.order cs tried.state tried.store in
       (x ≡ (empty, tried.store)) × (perform c x.0 tried.order x.1 ≡ refusal c 5 empty tried.store))
-  after-refused k h cs c =
-      let e = refused-empties k h in
+  after_refused k h cs c =
+      let e = refused_empties k h in
       let x = run perform tried.order cs tried.state tried.store in
       let r : x ≡ (empty, tried.store) = ap (λ (st : State). run perform tried.order cs st tried.store) e ∙ empty-run tried.order cs empty tried.store refl in
       (r, subst (λ (z : State × List Float). perform c z.0 tried.order z.1 ≡ refusal c 5 empty tried.store) (sym r) (empty-call c empty tried.order tried.store refl))

@@ -63,22 +63,22 @@ pub refused_five : asks empty six.order (w 1 ∷ []) (w 2) plus_zero (junk 1) �
 unfolding opened
 refused_five = refl
 
-pub refused-six :
+pub refused_six :
     (asks six.state six.order (nan ∷ []) (w 2) plus_zero (junk 1) ≡ refused_by 6 six.state (junk 1))
     × (asks six.state six.order (w 1 ∷ []) (inf false) plus_zero (junk 1) ≡ refused_by 6 six.state (junk 1))
     × (asks six.state six.order (w 1 ∷ []) (w 2) nan (junk 1) ≡ refused_by 6 six.state (junk 1))
 unfolding opened
-refused-six = (refl, refl, refl)
+refused_six = (refl, refl, refl)
 
 -- a radius of +0 and of −0, an initial lambda below zero, a scaling entry of −0; an initial lambda of −0 is accepted
-pub refused-seven :
+pub refused_seven :
     (asks six.state six.order (w 1 ∷ []) plus_zero plus_zero (junk 1) ≡ refused_by 7 six.state (junk 1))
     × (asks six.state six.order (w 1 ∷ []) negative_zero plus_zero (junk 1) ≡ refused_by 7 six.state (junk 1))
     × (asks six.state six.order (w 1 ∷ []) (w 2) (round binary64 true 1 1) (junk 1) ≡ refused_by 7 six.state (junk 1))
     × (asks six.state six.order (negative_zero ∷ []) (w 2) plus_zero (junk 1) ≡ refused_by 7 six.state (junk 1))
     × ((asks six.state six.order (w 1 ∷ []) (w 2) negative_zero (junk 1)).reply ≡ answered (record { lambda = plus_zero; dp_norm = w 2; trials = 0 }, neither))
 unfolding opened
-refused-seven = (refl, refl, refl, refl, refl)
+refused_seven = (refl, refl, refl, refl, refl)
 
 -- J = (10^-320), r = (1): the undamped scaled norm is infinite; held nothing, the output as it came
 abbrev tiny : Factored
@@ -126,10 +126,10 @@ product-held = base (held_product (junk 2))
 abbrev after : List Call → Call → Outcome
 after cs c = let x = run perform flat.order cs flat.state flat.store in perform c x.0 flat.order x.1
 
-pub history-of-three :
+pub history_of_three :
     ((after [] solve_zero).answer ≡ of_base (done (answered tt)))
     × ((after (solve_zero ∷ []) product-held).answer ≡ of_base (done (answered tt)))
     × ((after (solve_zero ∷ []) solve_damped).answer ≡ of_base (done (refused 8)))
     × ((after (solve_zero ∷ solve_damped ∷ []) product-held).answer ≡ of_base (done (refused 5)))
 unfolding opened
-history-of-three = (refl, refl, refl, refl)
+history_of_three = (refl, refl, refl, refl)

@@ -40,8 +40,8 @@ use Rattle.search.proofs.trust_region.determine_lambda_and_parameter_update.Read
 use Rattle.search.proofs.trust_region.determine_lambda_and_parameter_update.Kinds as kinds
 use Rattle.demands.proofs.Ties.{determine_lambda_and_parameter_update_is}
 use Rattle.search.specs.Lmpar.{lmpar}
-use Rattle.search.proofs.AgainstLmpar.{search-answers_as_lmpar}
-use Rattle.demands.proofs.LmparHistories.{factored-answers-as-lmpar}
+use Rattle.search.proofs.AgainstLmpar.{search_answers_as_lmpar}
+use Rattle.demands.proofs.LmparHistories.{factored-answers_as_lmpar}
 use Rattle.demands.proofs.LeafTable as leaf
 use Rattle.demands.proofs.WorkingTable as working
 use Rattle.demands.proofs.FactoringTable as factoring
@@ -50,7 +50,7 @@ use Rattle.sheet.specs.Tests.{sheet_tests}
 use Rattle.sheet.specs.Fit.{finished as unwritten, sheet_call}
 use Rattle.demands.proofs.SheetTable as sheets
 use Rattle.search.proofs.AgainstEnorm.{norm_is_enorm}
-use Rattle.demands.proofs.AsFresh.{as-fresh, any_history, never_changed, after-refused}
+use Rattle.demands.proofs.AsFresh.{as_fresh, any_history, never_changed, after_refused}
 use Rattle.search.proofs.Rules.{rules_hold}
 use Rattle.demands.proofs.SearchAnswers as told
 use Rattle.search.specs.Answers.{found_of}
@@ -63,7 +63,7 @@ use Rattle.demands.specs.Alike.{Kept, ToldAlike, SameContents}
 use Rattle.demands.specs.Factorings.{room_made, factoring_stands, factoring_breaks}
 use Rattle.demands.specs.Workings.{Leaves, Workings, Parts, SharedTests, SheetLines}
 use Rattle.factor.specs.AsFactored.{AsFactored}
-use Rattle.factor.proofs.Answered.{answered-as-factored, factoring-flags}
+use Rattle.factor.proofs.Answered.{answered_as_factored, factoring-flags}
 use Rattle.demands.proofs.LinesTable.{sheet_lines}
 
 -- ==== Demand 1. "Every call ends on every input. Bad input gets the refusal that document 01 numbers, outputs stay unwritten, and the lent store
@@ -110,33 +110,33 @@ demand_1_work = table.work_rests
 -- Factoring: refused 2 to 7, the lent slices as they came and the state empty; refused 8 where R, a column norm or qt_b would hold a number that is
 -- not finite, the needed store and bench +0, the order 0 to n−1, the state empty; or answered, and the bench +0.
 module _ (m n : ℕ) (jacobian residuals store : List Float) (order : List ℕ) (bench : List Float) where
-  pub demand-1-factoring-refused : (k : ℕ) → 0 < k → k < 8
+  pub demand_1_factoring_refused : (k : ℕ) → 0 < k → k < 8
       → (reply_number (factor_call m n jacobian residuals store order bench).reply ≡ k) ↔ RefusedBy (factor_tests m n jacobian residuals (length store) (length order) (length bench)) k
-  demand-1-factoring-refused = factoring.refused_early m n jacobian residuals store order bench
+  demand_1_factoring_refused = factoring.refused_early m n jacobian residuals store order bench
 
-  pub demand-1-factoring-unchanged : (k : ℕ) → 0 < k → RefusedBy (factor_tests m n jacobian residuals (length store) (length order) (length bench)) k
+  pub demand_1_factoring_unchanged : (k : ℕ) → 0 < k → RefusedBy (factor_tests m n jacobian residuals (length store) (length order) (length bench)) k
       → factor_call m n jacobian residuals store order bench ≡ factored (refused k) empty store order bench
-  demand-1-factoring-unchanged = factoring.refused_whole m n jacobian residuals store order bench
+  demand_1_factoring_unchanged = factoring.refused_whole m n jacobian residuals store order bench
 
-  pub demand-1-factoring-eight : (reply_number (factor_call m n jacobian residuals store order bench).reply ≡ 8)
+  pub demand_1_factoring_eight : (reply_number (factor_call m n jacobian residuals store order bench).reply ≡ 8)
       ↔ (NoneHold (factor_tests m n jacobian residuals (length store) (length order) (length bench)) × (finite_room (room_made m n jacobian residuals store) ≡ false))
-  demand-1-factoring-eight = factoring.refused_eight m n jacobian residuals store order bench
+  demand_1_factoring_eight = factoring.refused_eight m n jacobian residuals store order bench
 
-  pub demand-1-factoring-eight-left : reply_number (factor_call m n jacobian residuals store order bench).reply ≡ 8
+  pub demand_1_factoring_eight_left : reply_number (factor_call m n jacobian residuals store order bench).reply ≡ 8
       → factor_call m n jacobian residuals store order bench ≡ factoring_breaks m n store order bench
-  demand-1-factoring-eight-left = factoring.eight_whole m n jacobian residuals store order bench
+  demand_1_factoring_eight_left = factoring.eight_whole m n jacobian residuals store order bench
 
-  pub demand-1-factoring-answered : (reply_number (factor_call m n jacobian residuals store order bench).reply ≡ 0)
+  pub demand_1_factoring_answered : (reply_number (factor_call m n jacobian residuals store order bench).reply ≡ 0)
       ↔ (NoneHold (factor_tests m n jacobian residuals (length store) (length order) (length bench)) × (finite_room (room_made m n jacobian residuals store) ≡ true))
-  demand-1-factoring-answered = factoring.answered_otherwise m n jacobian residuals store order bench
+  demand_1_factoring_answered = factoring.answered_otherwise m n jacobian residuals store order bench
 
-  pub demand-1-factoring-answered-left : reply_number (factor_call m n jacobian residuals store order bench).reply ≡ 0
+  pub demand_1_factoring_answered_left : reply_number (factor_call m n jacobian residuals store order bench).reply ≡ 0
       → factor_call m n jacobian residuals store order bench ≡ factoring_stands m n jacobian residuals store order bench
-  demand-1-factoring-answered-left = factoring.answered-whole m n jacobian residuals store order bench
+  demand_1_factoring_answered_left = factoring.answered_whole m n jacobian residuals store order bench
 
   -- "After factoring": what the table of the lent room says of the store, +0 below R, in l_diag and in work, and every number of it finite.
-  pub demand-1-factoring-room : {f : Ranges} → (factor_call m n jacobian residuals store order bench).reply ≡ answered f → AsFactored n (load n (factor_call m n jacobian residuals store order bench).store)
-  demand-1-factoring-room = answered-as-factored m n jacobian residuals store order bench
+  pub demand_1_factoring_room : {f : Ranges} → (factor_call m n jacobian residuals store order bench).reply ≡ answered f → AsFactored n (load n (factor_call m n jacobian residuals store order bench).store)
+  demand_1_factoring_room = answered_as_factored m n jacobian residuals store order bench
 
 -- The leaves, a row for each that can be refused: 2 for over 128 numbers to a norm, 3 for slices whose lengths do not fit, each exactly then, the
 -- output as it came; answered otherwise. `copy_long` has `copy`'s definition. The others are never refused, their contracts are equations with a number, a
@@ -163,7 +163,7 @@ demand_1_sheet_refused = sheets.refused_early
 
 -- Whatever number it is refused by, 8 too, the lent step is as it came.
 pub demand_1_sheet_unchanged : (sheet : List ℕ) (step : List Float) (k : ℕ) → 0 < k → reply_number (sheet_call sheet step).reply ≡ k → sheet_call sheet step ≡ unwritten (refused k) step
-demand_1_sheet_unchanged = sheets.refused-unwritten
+demand_1_sheet_unchanged = sheets.refused_unwritten
 
 -- It is refused 8 exactly when no condition holds and its working is (its factoring, in call 2 its first scaling, or its search); answered otherwise.
 pub demand_1_sheet_eight : (sheet : List ℕ) (step : List Float) → (reply_number (sheet_call sheet step).reply ≡ 8) ↔ (NoneHold (sheet_tests sheet (length step)) × (reply_number (sheet_working sheet step).reply ≡ 8))
@@ -174,7 +174,7 @@ demand_1_sheet_answered = sheets.answered_otherwise
 
 -- There is no other number, so that no sheet is refused 4 or 5.
 pub demand_1_sheet_never : (sheet : List ℕ) (step : List Float) → (let k = reply_number (sheet_call sheet step).reply in (k ≤ 3) ⊎ ((6 ≤ k) × (k ≤ 8)))
-demand_1_sheet_never = sheets.numbers-named
+demand_1_sheet_never = sheets.numbers_named
 
 -- The lines into a lent buffer (`write_lines`, `fit_lines`): refused 2 or 3, the buffer as it came, or answered.
 pub demand_1_sheet_lines : SheetLines
@@ -209,7 +209,7 @@ pub demand_2_search : (unset : Float) (st : State) (order : List ℕ) (diag : Li
     → search_call st order diag radius lambda (store out).reply ≡ answered a → st.n ≤ st.m
     → lmpar (minpack_enorm unset) dwarf (lent_of st order diag radius store) lambda
     ≡ record { x = take st.n (search_call st order diag radius lambda (store out).out); par = a.0.lambda; qrsolvs = a.0.trials }
-demand_2_search = search-answers_as_lmpar
+demand_2_search = search_answers_as_lmpar
 
 -- After a factoring it is so for m < n too, straight after it or after any calls since.
 pub demand_2_search_factored : (m n : ℕ) (jacobian residuals store : List Float) (order : List ℕ) (bench : List Float) {seen : Ranges}
@@ -219,7 +219,7 @@ pub demand_2_search_factored : (m n : ℕ) (jacobian residuals store : List Floa
     → search_call x.0 f.order diag radius lambda (x.1 out).reply ≡ answered a
     → lmpar (minpack_enorm unset) dwarf (lent_of x.0 f.order diag radius x.1) lambda
     ≡ record { x = take x.0.n (search_call x.0 f.order diag radius lambda (x.1 out).out); par = a.0.lambda; qrsolvs = a.0.trials }))
-demand_2_search_factored = factored-answers-as-lmpar
+demand_2_search_factored = factored-answers_as_lmpar
 
 -- ==== Demand 3. "Factor once, lend the same store and order list each time, pass each returned state on, and let nobody else write those two."
 
@@ -239,7 +239,7 @@ pub demand_3_as_fresh : (m n : ℕ) (jacobian residuals store store' : List Floa
     → (let x = run perform one.order cs one.state one.store in
     let y = run perform other.order (latest perform one.order settling [] cs one.state one.store) other.state other.store in
     ToldAlike (perform c x.0 one.order x.1) (perform c y.0 other.order y.1)))
-demand_3_as_fresh = as-fresh
+demand_3_as_fresh = as_fresh
 
 -- The flags of 02, #106, belong to the answer, so that the theorem above is of them too; and the two factorings answer the same ones.
 pub demand_3_flags : (m n : ℕ) (jacobian residuals store store' : List Float) (order order' : List ℕ) (bench bench' : List Float) {f g : Ranges}
@@ -260,7 +260,7 @@ pub demand_3_after_refused : (m n : ℕ) (jacobian residuals store : List Float)
     tried.reply ≡ refused k → (cs : List Call) (c : Call)
     → (let x = run perform tried.order cs tried.state tried.store in
     (x ≡ (empty, tried.store)) × (perform c x.0 tried.order x.1 ≡ refusal c 5 empty tried.store)))
-demand_3_after_refused = after-refused
+demand_3_after_refused = after_refused
 
 -- "Until then R and its diagonal never change a bit." For any store, whatever is in it; nor do qt_b, the column norms and the surplus.
 pub demand_3_never_changed : (order : List ℕ) (cs : List Call) (st : State) (store : List Float) → Kept (load st.n store) (load st.n (run perform order cs st store).1)
@@ -276,23 +276,23 @@ module _ (st : State) (order : List ℕ) (diag : List Float) (radius lambda : Fl
   overshoot = sub binary64 (scaled_norm asked (undamped_step asked)) radius
 
   -- "An answered search gives lambda zero exactly when the computed undamped scaled norm less the radius is at most the computed tenth of the radius."
-  pub demand-3-lambda : (a.0.lambda ≡ plus_zero) ↔ (le overshoot (band radius) ≡ true)
-  demand-3-lambda = told.lambda-rule st order diag radius lambda store out a h
+  pub demand_3_lambda : (a.0.lambda ≡ plus_zero) ↔ (le overshoot (band radius) ≡ true)
+  demand_3_lambda = told.lambda_rule st order diag radius lambda store out a h
 
   -- "Otherwise lambda is above zero after one to ten trials, and fewer than ten only for a stop rule in document 01." `within` is |fp| ≤ delta·0.1,
   -- `falling` is lower bound zero, fp ≤ previous fp, previous fp negative.
-  pub demand-3-trials : le overshoot (band radius) ≡ false
+  pub demand_3_trials : le overshoot (band radius) ≡ false
       → (lt plus_zero a.0.lambda ≡ true)
       × ((1 ≤ a.0.trials) × ((a.0.trials ≤ 10) × (a.0.trials < 10 → (ending (run_of asked lambda) ≡ inl within) ⊎ (ending (run_of asked lambda) ≡ inl falling))))
-  demand-3-trials = told.trial-rule st order diag radius lambda store out a h
+  demand_3_trials = told.trial_rule st order diag radius lambda store out a h
 
   -- "The last cannot apply at t = 1": `falling` takes two trials at least.
-  pub demand-3-falling : ending (run_of asked lambda) ≡ inl falling → 2 ≤ a.0.trials
-  demand-3-falling = told.falling-later st order diag radius lambda store out a h
+  pub demand_3_falling : ending (run_of asked lambda) ≡ inl falling → 2 ≤ a.0.trials
+  demand_3_falling = told.falling_later st order diag radius lambda store out a h
 
   -- A run that began its trials stops by one of these rules only where it holds, of the numbers of its trials.
-  pub demand-3-stop-rules : le overshoot (band radius) ≡ false → RuledFrom asked overshoot (run_of asked lambda)
-  demand-3-stop-rules = rules_hold asked lambda
+  pub demand_3_stop_rules : le overshoot (band radius) ≡ false → RuledFrom asked overshoot (run_of asked lambda)
+  demand_3_stop_rules = rules_hold asked lambda
 
 -- What a technician wants to hear of an answered search: `proofs/AnsweredSearch.antt`.
 -- Closed witnesses, computed: `crates/search/proofs/Witnesses.antt` (document 01's F, G and K, each stop rule, each place of refusal 8) and

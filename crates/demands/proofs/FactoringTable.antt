@@ -41,21 +41,21 @@ module _ (m n : ℕ) (jacobian residuals store : List Float) (order : List ℕ) 
   abbrev pub breaks : Factored
   breaks = factoring_breaks m n store order bench
 
-  pub worked-stands : finite_room room ≡ true → factor_worked m n jacobian residuals store order bench ≡ stands
+  pub worked_stands : finite_room room ≡ true → factor_worked m n jacobian residuals store order bench ≡ stands
   unfolding factor_worked
-  worked-stands h = rw (h, factor_worked)
+  worked_stands h = rw (h, factor_worked)
 
-  pub worked-breaks : finite_room room ≡ false → factor_worked m n jacobian residuals store order bench ≡ breaks
+  pub worked_breaks : finite_room room ≡ false → factor_worked m n jacobian residuals store order bench ≡ breaks
   unfolding factor_worked
-  worked-breaks h = rw (h, factor_worked)
+  worked_breaks h = rw (h, factor_worked)
 
   passed_is : first_of tests ≡ 0 → call ≡ factor_worked m n jacobian residuals store order bench
   unfolding factor_call
   passed_is e = sym (call-worked _ (λ k. factored (refused k) empty store order bench) _ e)
 
-  refused-is : eqb (first_of tests) 0 ≡ false → call ≡ factored (refused (first_of tests)) empty store order bench
+  refused_is : eqb (first_of tests) 0 ≡ false → call ≡ factored (refused (first_of tests)) empty store order bench
   unfolding factor_call
-  refused-is h = sym (call-refused _ (λ k. factored (refused k) empty store order bench) _ (first_of tests) refl h)
+  refused_is h = sym (call-refused _ (λ k. factored (refused k) empty store order bench) _ (first_of tests) refl h)
 
   none_met : first_of tests ≡ 0 → NoneHold tests
   none_met e = (passed_iff tests refl).0 e
@@ -66,9 +66,9 @@ module _ (m n : ℕ) (jacobian residuals store : List Float) (order : List ℕ) 
   cases {X} p q r = by (eqb (first_of tests) 0) refl (finite_room room) refl
     where
       by : (b : Bool) → eqb (first_of tests) 0 ≡ b → (d : Bool) → finite_room room ≡ d → X
-      by true e true f = let z = eqb-true (first_of tests) 0 e in p (none_met z) f (passed_is z ∙ worked-stands f)
-      by true e false f = let z = eqb-true (first_of tests) 0 e in q (none_met z) f (passed_is z ∙ worked-breaks f)
-      by false e d f = r (eqb-false (first_of tests) 0 e) (refused-is e)
+      by true e true f = let z = eqb-true (first_of tests) 0 e in p (none_met z) f (passed_is z ∙ worked_stands f)
+      by true e false f = let z = eqb-true (first_of tests) 0 e in q (none_met z) f (passed_is z ∙ worked_breaks f)
+      by false e d f = r (eqb-false (first_of tests) 0 e) (refused_is e)
 
   number : {x : Factored} {k : ℕ} → call ≡ x → given ≡ k → reply_number x.reply ≡ k
   number e h = ap (λ (y : Factored). reply_number y.reply) (sym e) ∙ h
@@ -94,18 +94,18 @@ module _ (m n : ℕ) (jacobian residuals store : List Float) (order : List ℕ) 
   pub refused_eight : (given ≡ 8) ↔ (NoneHold tests × (finite_room room ≡ false))
   refused_eight = (
     λ h. cases (λ n f e. absurd (let z = number e h in omega arith)) (λ n f e. (n, f)) (λ n e. absurd (let z = number e h in let y = first_small tests refl in omega arith)),
-    λ w. ap (λ (y : Factored). reply_number y.reply) (passed_is ((passed_iff tests refl).1 w.0) ∙ worked-breaks w.1),
+    λ w. ap (λ (y : Factored). reply_number y.reply) (passed_is ((passed_iff tests refl).1 w.0) ∙ worked_breaks w.1),
   )
 
   pub eight_whole : given ≡ 8 → call ≡ breaks
-  eight_whole h = let w = refused_eight.0 h in passed_is ((passed_iff tests refl).1 w.0) ∙ worked-breaks w.1
+  eight_whole h = let w = refused_eight.0 h in passed_is ((passed_iff tests refl).1 w.0) ∙ worked_breaks w.1
 
   -- LAW: answered
   pub answered_otherwise : (given ≡ 0) ↔ (NoneHold tests × (finite_room room ≡ true))
   answered_otherwise = (
     λ h. cases (λ n f e. (n, f)) (λ n f e. absurd (let z = number e h in omega arith)) (λ n e. absurd (n (number e h))),
-    λ w. ap (λ (y : Factored). reply_number y.reply) (passed_is ((passed_iff tests refl).1 w.0) ∙ worked-stands w.1),
+    λ w. ap (λ (y : Factored). reply_number y.reply) (passed_is ((passed_iff tests refl).1 w.0) ∙ worked_stands w.1),
   )
 
-  pub answered-whole : given ≡ 0 → call ≡ stands
-  answered-whole h = let w = answered_otherwise.0 h in passed_is ((passed_iff tests refl).1 w.0) ∙ worked-stands w.1
+  pub answered_whole : given ≡ 0 → call ≡ stands
+  answered_whole h = let w = answered_otherwise.0 h in passed_is ((passed_iff tests refl).1 w.0) ∙ worked_stands w.1

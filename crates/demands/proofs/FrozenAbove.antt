@@ -23,15 +23,15 @@ use Rattle.calls.specs.Tests.{call_by}
 use Rattle.calls.specs.Outcome.{MarkedTold, marked_told, told_as, narrowed_in, rested_by}
 use Rattle.calls.specs.Measures.{marked_gradient, marked_above_tests, marked_above}
 use Rattle.calls.proofs.Measured.{gradient_tests}
-use Rattle.calls.proofs.Passed.{by-refusal, by-working}
+use Rattle.calls.proofs.Passed.{by_refusal, by_working}
 use Rattle.demands.specs.Above.{before_non_finite, any_above, free_measures}
 use Rattle.demands.specs.Calls.{reply_number, gradient, above}
 use Rattle.demands.specs.History.{base}
 use Rattle.demands.specs.Marked.{perform_marked, tests_marked, reduced_call}
 use Rattle.demands.specs.Refusals.{shortest_of, further_of}
-use Rattle.demands.proofs.AboveLaws.{judged, says-yes, says-no, says-eight, passed_is, above-beside-eight}
+use Rattle.demands.proofs.AboveLaws.{judged, says_yes, says_no, says_eight, passed_is, above_beside_eight}
 use Rattle.demands.proofs.ReducedTests.{reduced-passes}
-use Rattle.demands.proofs.FrozenTable.{frozen-refused, frozen-eight}
+use Rattle.demands.proofs.FrozenTable.{frozen_refused, frozen_eight}
 
 -- ---- two calls with marks that are refused by the same number, side by side
 module _ {A B : Type 0} (P : Reply A → Reply B → Type 0) (marks : ℕ) (ts us : List Test) (e : first_of us ≡ first_of ts)
@@ -54,101 +54,101 @@ module _ (st : State) (order : List ℕ) (bnorm limit : Float) (store : List Flo
   abbrev tests : List Test
   tests = marked_above_tests st (length store) order bnorm limit
 
-  abbrev tests-beside : List Test
-  tests-beside = gradient_tests st (length store) order bnorm
+  abbrev tests_beside : List Test
+  tests_beside = gradient_tests st (length store) order bnorm
 
   abbrev ms : List Float
   ms = free_measures st order bnorm store
 
   -- the calls without marks, on the whole problem and on the one without the frozen columns
-  abbrev over-all : Told Bool
-  over-all = above_call (whole st) order bnorm limit store
+  abbrev over_all : Told Bool
+  over_all = above_call (whole st) order bnorm limit store
 
-  abbrev over-free : Told Bool
-  over-free = above_call (without_frozen st) (take (cols st) order) bnorm limit (narrowed_in st store)
+  abbrev over_free : Told Bool
+  over_free = above_call (without_frozen st) (take (cols st) order) bnorm limit (narrowed_in st store)
 
-  abbrev gradient-over-all : Told Float
-  gradient-over-all = gradient_call (whole st) order bnorm store
+  abbrev gradient_over_all : Told Float
+  gradient_over_all = gradient_call (whole st) order bnorm store
 
-  abbrev gradient-over-free : Told Float
-  gradient-over-free = gradient_call (without_frozen st) (take (cols st) order) bnorm (narrowed_in st store)
+  abbrev gradient_over_free : Told Float
+  gradient_over_free = gradient_call (without_frozen st) (take (cols st) order) bnorm (narrowed_in st store)
 
-  same_first : is_finite limit ≡ true → below limit ≡ false → first_of tests ≡ first_of tests-beside
+  same_first : is_finite limit ≡ true → below limit ≡ false → first_of tests ≡ first_of tests_beside
   unfolding first_of
   same_first f b = rw (f, b)
 
   -- LAW: for any number of marks, 0 too
-  pub frozen-above-agrees : (g : Float) → (marked_gradient st order bnorm store).reply ≡ answered g → is_finite limit ≡ true → below limit ≡ false
+  pub frozen_above-agrees : (g : Float) → (marked_gradient st order bnorm store).reply ≡ answered g → is_finite limit ≡ true → below limit ≡ false
       → (marked_above st order bnorm limit store).reply ≡ answered (lt limit g)
   unfolding marked_gradient marked_above
-  frozen-above-agrees g e f b =
-      beside (λ (x : Reply Float) (y : Reply Bool). x ≡ answered g → y ≡ answered (lt limit g)) st.marks tests-beside tests (same_first f b)
-      (told_as st gradient-over-all) (rested_by st store gradient-over-free) (λ k. marked_told (refused k) st store)
-      (told_as st over-all) (rested_by st store over-free) (λ k. marked_told (refused k) st store)
+  frozen_above-agrees g e f b =
+      beside (λ (x : Reply Float) (y : Reply Bool). x ≡ answered g → y ≡ answered (lt limit g)) st.marks tests_beside tests (same_first f b)
+      (told_as st gradient_over_all) (rested_by st store gradient_over_free) (λ k. marked_told (refused k) st store)
+      (told_as st over_all) (rested_by st store over_free) (λ k. marked_told (refused k) st store)
       (λ h. above-agrees-call (whole st) order bnorm limit store g h f b)
       (λ h. above-agrees-call (without_frozen st) (take (cols st) order) bnorm limit (narrowed_in st store) g h f b)
       (λ k h. refused-answered h) e
 
   module _ (m : st.marks ≡ 0 → ⊥) where
-    reduced-is : first_of tests ≡ 0 → (marked_above st order bnorm limit store).reply ≡ over-free.reply
+    reduced_is : first_of tests ≡ 0 → (marked_above st order bnorm limit store).reply ≡ over_free.reply
     unfolding marked_above
-    reduced-is z =
+    reduced_is z =
         ap (λ (t : MarkedTold Bool). t.reply)
-        (sym (by-working st.marks tests (told_as st over-all) (rested_by st store over-free) (λ k. marked_told (refused k) st store) m refl z))
+        (sym (by_working st.marks tests (told_as st over_all) (rested_by st store over_free) (λ k. marked_told (refused k) st store) m refl z))
 
-    stopped-is : (first_of tests ≡ 0 → ⊥) → (marked_above st order bnorm limit store).reply ≡ refused (first_of tests)
+    stopped_is : (first_of tests ≡ 0 → ⊥) → (marked_above st order bnorm limit store).reply ≡ refused (first_of tests)
     unfolding marked_above
-    stopped-is h =
+    stopped_is h =
         ap (λ (t : MarkedTold Bool). t.reply)
-        (sym (by-refusal st.marks tests (told_as st over-all) (rested_by st store over-free) (λ k. marked_told (refused k) st store) m refl h))
+        (sym (by_refusal st.marks tests (told_as st over_all) (rested_by st store over_free) (λ k. marked_told (refused k) st store) m refl h))
 
-    small-passed : first_of tests ≡ 0 → first_of (above_tests (without_frozen st) (length (narrowed_in st store)) (take (cols st) order) bnorm limit) ≡ 0
+    small_passed : first_of tests ≡ 0 → first_of (above_tests (without_frozen st) (length (narrowed_in st store)) (take (cols st) order) bnorm limit) ≡ 0
     unfolding tests_marked reduced_call shortest_of further_of
-    small-passed z =
+    small_passed z =
         (passed_iff (above_tests (without_frozen st) (length (narrowed_in st store)) (take (cols st) order) bnorm limit) refl).1
         (reduced-passes st order store (base (above bnorm limit)) ((passed_iff tests refl).0 z))
 
-    marked-passed : first_of tests ≡ 0 → (marked_above st order bnorm limit store).reply ≡ judged (any_above limit (before_non_finite ms)) (all_finite ms)
-    marked-passed z = reduced-is z ∙ passed_is (without_frozen st) (take (cols st) order) bnorm limit (narrowed_in st store) (small-passed z)
+    marked_passed : first_of tests ≡ 0 → (marked_above st order bnorm limit store).reply ≡ judged (any_above limit (before_non_finite ms)) (all_finite ms)
+    marked_passed z = reduced_is z ∙ passed_is (without_frozen st) (take (cols st) order) bnorm limit (narrowed_in st store) (small_passed z)
 
-    eight-passed : (marked_above st order bnorm limit store).reply ≡ refused 8 → NoneHold tests
+    eight_passed : (marked_above st order bnorm limit store).reply ≡ refused 8 → NoneHold tests
     unfolding perform_marked tests_marked
-    eight-passed h = ((frozen-eight (base (above bnorm limit)) st order store m).0 (ap reply_number h)).0
+    eight_passed h = ((frozen_eight (base (above bnorm limit)) st order store m).0 (ap reply_number h)).0
 
     -- LAW: by the free columns' measures
-    pub frozen-above-yes : ((marked_above st order bnorm limit store).reply ≡ answered true) ↔ (NoneHold tests × (any_above limit (before_non_finite ms) ≡ true))
-    frozen-above-yes = says-yes tests refl limit ms (marked_above st order bnorm limit store).reply marked-passed stopped-is
+    pub frozen_above_yes : ((marked_above st order bnorm limit store).reply ≡ answered true) ↔ (NoneHold tests × (any_above limit (before_non_finite ms) ≡ true))
+    frozen_above_yes = says_yes tests refl limit ms (marked_above st order bnorm limit store).reply marked_passed stopped_is
 
-    pub frozen-above-no : ((marked_above st order bnorm limit store).reply ≡ answered false) ↔ (NoneHold tests × ((any_above limit ms ≡ false) × (all_finite ms ≡ true)))
-    frozen-above-no = says-no tests refl limit ms (marked_above st order bnorm limit store).reply marked-passed stopped-is
+    pub frozen_above_no : ((marked_above st order bnorm limit store).reply ≡ answered false) ↔ (NoneHold tests × ((any_above limit ms ≡ false) × (all_finite ms ≡ true)))
+    frozen_above_no = says_no tests refl limit ms (marked_above st order bnorm limit store).reply marked_passed stopped_is
 
-    pub frozen-above-eight : ((marked_above st order bnorm limit store).reply ≡ refused 8) ↔ (NoneHold tests × ((any_above limit (before_non_finite ms) ≡ false) × (all_finite ms ≡ false)))
-    frozen-above-eight = says-eight tests refl limit ms (marked_above st order bnorm limit store).reply marked-passed stopped-is eight-passed
+    pub frozen_above_eight : ((marked_above st order bnorm limit store).reply ≡ refused 8) ↔ (NoneHold tests × ((any_above limit (before_non_finite ms) ≡ false) × (all_finite ms ≡ false)))
+    frozen_above_eight = says_eight tests refl limit ms (marked_above st order bnorm limit store).reply marked_passed stopped_is eight_passed
 
     -- LAW: beside the gradient, where the limit is finite and not below zero
     module _ (f : is_finite limit ≡ true) (b : below limit ≡ false) where
-      pub frozen-above-as-gradient : (k : ℕ) → 0 < k → (k ≡ 8 → ⊥)
+      pub frozen_above_as_gradient : (k : ℕ) → 0 < k → (k ≡ 8 → ⊥)
           → (reply_number (marked_gradient st order bnorm store).reply ≡ k) ↔ (reply_number (marked_above st order bnorm limit store).reply ≡ k)
       unfolding perform_marked tests_marked
-      frozen-above-as-gradient k p q =
-          let g = frozen-refused (base (gradient bnorm)) st order store m k p q in
-          let a = frozen-refused (base (above bnorm limit)) st order store m k p q in (
-            λ h. a.1 ((refused_iff tests k p).0 (same_first f b ∙ (refused_iff tests-beside k p).1 (g.0 h))),
-            λ h. g.1 ((refused_iff tests-beside k p).0 (sym (same_first f b) ∙ (refused_iff tests k p).1 (a.0 h))),
+      frozen_above_as_gradient k p q =
+          let g = frozen_refused (base (gradient bnorm)) st order store m k p q in
+          let a = frozen_refused (base (above bnorm limit)) st order store m k p q in (
+            λ h. a.1 ((refused_iff tests k p).0 (same_first f b ∙ (refused_iff tests_beside k p).1 (g.0 h))),
+            λ h. g.1 ((refused_iff tests_beside k p).0 (sym (same_first f b) ∙ (refused_iff tests k p).1 (a.0 h))),
           )
 
-      gradient_passed : (marked_gradient st order bnorm store).reply ≡ refused 8 → first_of tests-beside ≡ 0
+      gradient_passed : (marked_gradient st order bnorm store).reply ≡ refused 8 → first_of tests_beside ≡ 0
       unfolding perform_marked tests_marked
-      gradient_passed h = (passed_iff tests-beside refl).1 ((frozen-eight (base (gradient bnorm)) st order store m).0 (ap reply_number h)).0
+      gradient_passed h = (passed_iff tests_beside refl).1 ((frozen_eight (base (gradient bnorm)) st order store m).0 (ap reply_number h)).0
 
-      gradient-reduced : (marked_gradient st order bnorm store).reply ≡ refused 8 → gradient-over-free.reply ≡ refused 8
+      gradient-reduced : (marked_gradient st order bnorm store).reply ≡ refused 8 → gradient_over_free.reply ≡ refused 8
       unfolding marked_gradient
       gradient-reduced h =
           ap (λ (t : MarkedTold Float). t.reply)
-          (by-working st.marks tests-beside (told_as st gradient-over-all) (rested_by st store gradient-over-free) (λ k. marked_told (refused k) st store) m refl (gradient_passed h))
+          (by_working st.marks tests_beside (told_as st gradient_over_all) (rested_by st store gradient_over_free) (λ k. marked_told (refused k) st store) m refl (gradient_passed h))
           ∙ h
 
-      pub frozen-above-beside-eight : (marked_gradient st order bnorm store).reply ≡ refused 8
+      pub frozen_above_beside_eight : (marked_gradient st order bnorm store).reply ≡ refused 8
           → (marked_above st order bnorm limit store).reply ≡ cond (any_above limit (before_non_finite ms)) (answered true) (refused 8)
-      frozen-above-beside-eight h =
-          reduced-is (same_first f b ∙ gradient_passed h) ∙ above-beside-eight (without_frozen st) (take (cols st) order) bnorm limit (narrowed_in st store) f b (gradient-reduced h)
+      frozen_above_beside_eight h =
+          reduced_is (same_first f b ∙ gradient_passed h) ∙ above_beside_eight (without_frozen st) (take (cols st) order) bnorm limit (narrowed_in st store) f b (gradient-reduced h)

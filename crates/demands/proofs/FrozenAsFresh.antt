@@ -24,10 +24,10 @@ use Rattle.demands.specs.Calls.{run, latest}
 use Rattle.demands.specs.History.{Call}
 use Rattle.demands.specs.Alike.{ToldAlike, SameContents}
 use Rattle.demands.specs.Marked.{perform_under, settling_under}
-use Rattle.demands.proofs.Alikes.{surplus-alike, accepted, refactored, reordered}
+use Rattle.demands.proofs.Alikes.{surplus_alike, accepted, refactored, reordered}
 use Rattle.demands.proofs.MarkedForms.{factoring_no_marks}
-use Rattle.demands.proofs.FrozenHistories.{frozen-any-lent}
-use Rattle.demands.proofs.FrozenFactored.{free, small, is-spread, small-store, spread-state, front_length, first-order}
+use Rattle.demands.proofs.FrozenHistories.{frozen_any-lent}
+use Rattle.demands.proofs.FrozenFactored.{free, small, is_spread, small_store, spread-state, front_length, first_order}
 
 -- what two factorings have in common
 pub record Common (n : ℕ) (g h : MarkedFactored) : Type 0 where
@@ -42,7 +42,7 @@ pub record Common (n : ℕ) (g h : MarkedFactored) : Type 0 where
 -- two stores that differ in their surplus alone
 surplus_same : (m n : ℕ) (front a b : List Float) → length front ≡ store_need n → SameContents (state_of m n held.Nothing) (front ++ a) (front ++ b)
 surplus_same m n front a b h =
-    let w = surplus-alike n front a b h in
+    let w = surplus_alike n front a b h in
     let x = length-append front a in
     let y = length-append front b in
     record { long_left = omega arith; long_right = omega arith; alike = w.0; held_alike = w.1 }
@@ -54,17 +54,17 @@ module _ (m n marks : ℕ) (jacobian residuals s t : List Float) (o p : List ℕ
   abbrev pub other : MarkedFactored
   other = marked_factoring m n marks jacobian residuals t p d
 
-  some-common : (marks ≡ 0 → ⊥) → {f g : Ranges} → one.reply ≡ answered f → other.reply ≡ answered g → Common n one other
-  some-common k x y =
+  some_common : (marks ≡ 0 → ⊥) → {f g : Ranges} → one.reply ≡ answered f → other.reply ≡ answered g → Common n one other
+  some_common k x y =
       let front = spread_out n (free m n marks jacobian residuals) (small m n marks jacobian residuals s o b).store in
       let l = front_length m n marks jacobian residuals s o b k x in
       let st = spread-state m n marks jacobian residuals s o b k x in
       let e : (small m n marks jacobian residuals t p d).store ≡ (small m n marks jacobian residuals s o b).store =
-      small-store m n marks jacobian residuals t p d k y ∙ sym (small-store m n marks jacobian residuals s o b k x) in
-      let u : one.store ≡ written front s = (is-spread m n marks jacobian residuals s o b k x).store in
-      let v : other.store ≡ written front t = (is-spread m n marks jacobian residuals t p d k y).store ∙ ap (λ (z : List Float). written (spread_out n (free m n marks jacobian residuals) z) t) e in
-      let i = first-order m n marks jacobian residuals s o b k x in
-      let j = first-order m n marks jacobian residuals t p d k y in
+      small_store m n marks jacobian residuals t p d k y ∙ sym (small_store m n marks jacobian residuals s o b k x) in
+      let u : one.store ≡ written front s = (is_spread m n marks jacobian residuals s o b k x).store in
+      let v : other.store ≡ written front t = (is_spread m n marks jacobian residuals t p d k y).store ∙ ap (λ (z : List Float). written (spread_out n (free m n marks jacobian residuals) z) t) e in
+      let i = first_order m n marks jacobian residuals s o b k x in
+      let j = first_order m n marks jacobian residuals t p d k y in
       record {
         size = ap (λ (z : State). z.n) st;
         state = st ∙ sym (spread-state m n marks jacobian residuals t p d k y);
@@ -76,14 +76,14 @@ module _ (m n marks : ℕ) (jacobian residuals s t : List Float) (o p : List ℕ
       }
 
   -- with no mark they are factorings without marks
-  abbrev plain-one : plain.Factored
-  plain-one = plain.factor_call m n jacobian residuals s o b
+  abbrev plain_one : plain.Factored
+  plain_one = plain.factor_call m n jacobian residuals s o b
 
   abbrev plain_other : plain.Factored
   plain_other = plain.factor_call m n jacobian residuals t p d
 
-  plain-common : {f g : Ranges} → plain-one.reply ≡ answered f → plain_other.reply ≡ answered g → Common n (factored_as plain-one) (factored_as plain_other)
-  plain-common x y =
+  plain_common : {f g : Ranges} → plain_one.reply ≡ answered f → plain_other.reply ≡ answered g → Common n (factored_as plain_one) (factored_as plain_other)
+  plain_common x y =
       let w = refactored m n jacobian residuals s t o p b d x y in
       let v = reordered m n jacobian residuals s t o p b d x y in
       record {
@@ -96,35 +96,35 @@ module _ (m n marks : ℕ) (jacobian residuals s t : List Float) (o p : List ℕ
         same_order = v.2;
       }
 
-  none-common : marks ≡ 0 → {f g : Ranges} → one.reply ≡ answered f → other.reply ≡ answered g → Common n one other
-  none-common k x y =
-      let i : one ≡ factored_as plain-one = ap (λ (z : ℕ). marked_factoring m n z jacobian residuals s o b) k ∙ factoring_no_marks m n jacobian residuals s o b in
+  none_common : marks ≡ 0 → {f g : Ranges} → one.reply ≡ answered f → other.reply ≡ answered g → Common n one other
+  none_common k x y =
+      let i : one ≡ factored_as plain_one = ap (λ (z : ℕ). marked_factoring m n z jacobian residuals s o b) k ∙ factoring_no_marks m n jacobian residuals s o b in
       let j : other ≡ factored_as plain_other = ap (λ (z : ℕ). marked_factoring m n z jacobian residuals t p d) k ∙ factoring_no_marks m n jacobian residuals t p d in
-      subst (λ (z : MarkedFactored). Common n z other) (sym i) (subst (λ (z : MarkedFactored). Common n (factored_as plain-one) z) (sym j)
-      (plain-common (sym (ap (λ (z : MarkedFactored). z.reply) i) ∙ x) (sym (ap (λ (z : MarkedFactored). z.reply) j) ∙ y)))
+      subst (λ (z : MarkedFactored). Common n z other) (sym i) (subst (λ (z : MarkedFactored). Common n (factored_as plain_one) z) (sym j)
+      (plain_common (sym (ap (λ (z : MarkedFactored). z.reply) i) ∙ x) (sym (ap (λ (z : MarkedFactored). z.reply) j) ∙ y)))
 
   pub common : {f g : Ranges} → one.reply ≡ answered f → other.reply ≡ answered g → Common n one other
   common {f} {g} x y = by (eqb marks 0) refl
     where
       by : (z : Bool) → eqb marks 0 ≡ z → Common n one other
-      by true e = none-common (eqb-true marks 0 e) x y
-      by false e = some-common (eqb-false marks 0 e) x y
+      by true e = none_common (eqb-true marks 0 e) x y
+      by false e = some_common (eqb-false marks 0 e) x y
 
   -- LAW: both states have the marks that were given
   pub same-state : {f g : Ranges} → one.reply ≡ answered f → other.reply ≡ answered g → one.state ≡ other.state
   same-state x y = (common x y).state
 
   -- LAW
-  pub frozen-as-fresh : {f g : Ranges} → one.reply ≡ answered f → other.reply ≡ answered g → (cs : List Call) (c : Call)
+  pub frozen_as_fresh : {f g : Ranges} → one.reply ≡ answered f → other.reply ≡ answered g → (cs : List Call) (c : Call)
       → (let x = run (perform_under marks) one.order cs (whole one.state) one.store in
       let y = run (perform_under marks) other.order (latest (perform_under marks) one.order (settling_under marks) [] cs (whole one.state) one.store) (whole other.state) other.store in
       ToldAlike (perform_under marks c x.0 one.order x.1) (perform_under marks c y.0 other.order y.1))
-  frozen-as-fresh a e cs c =
+  frozen_as_fresh a e cs c =
       let w = common a e in
       let k = sym w.size in
       let x = run (perform_under marks) one.order cs (whole one.state) one.store in
       let last = latest (perform_under marks) one.order (settling_under marks) [] cs (whole one.state) one.store in
-      let h = frozen-any-lent marks one.order other.order (whole one.state) one.store other.store w.filled w.contents
+      let h = frozen_any-lent marks one.order other.order (whole one.state) one.store other.store w.filled w.contents
       (subst (λ (i : ℕ). i ≤ length one.order) k w.left_long) (subst (λ (i : ℕ). i ≤ length other.order) k w.right_long)
       (subst (λ (i : ℕ). take i one.order ≡ take i other.order) k w.same_order) cs c in
       subst (λ (st : State). (let z = run (perform_under marks) other.order last (whole st) other.store in

@@ -21,11 +21,11 @@ use Rattle.demands.specs.Calls.{run}
 use Rattle.demands.specs.History.{Call, Outcome, perform}
 use Rattle.demands.specs.Alike.{SameContents}
 use Rattle.demands.specs.inner.Helds.{is_held}
-use Rattle.demands.specs.Marked.{MarkedOutcome, perform_marked, tests_marked, refusal_marked, reduced_call, reduced_outcome, read_back, ReadAs, perform_under, settling_under, reducedRun}
+use Rattle.demands.specs.Marked.{MarkedOutcome, perform_marked, tests_marked, refusal_marked, reduced_call, reduced_outcome, read_back, ReadAs, perform_under, settling_under, reduced_run}
 use Rattle.demands.proofs.Laws.{laws}
 use Rattle.demands.proofs.Histories.{run-size}
 use Rattle.demands.proofs.MarkedForms.{marked-worked, marked_refused}
-use Rattle.demands.proofs.FrozenTable.{frozen-any-slices}
+use Rattle.demands.proofs.FrozenTable.{frozen_any_slices}
 use Rattle.demands.proofs.FrozenLaws.{refusal-state, refusal-store}
 use Rattle.demands.proofs.FrozenHistories.{laws_under}
 use Rattle.demands.proofs.FrozenRuns.{told_same, plain_follows, same-both, narrow_back}
@@ -40,7 +40,7 @@ module _ (marks : ℕ) (some : marks ≡ 0 → ⊥) (order p : List ℕ) where
   -- the order lists of n columns and of the free ones
   record Lists (n : ℕ) : Type 0 where
     order_long : free n ≤ length order
-    other-long : free n ≤ length p
+    other_long : free n ≤ length p
     same : take (free n) p ≡ take (free n) order
 
   -- a problem, and one without the frozen columns beside it
@@ -63,7 +63,7 @@ module _ (marks : ℕ) (some : marks ≡ 0 → ⊥) (order p : List ℕ) where
     there =
         let q = length-take-le (free st.n) order l.order_long in
         ap (λ (x : Plain). perform d x p y.1) b.state
-        ∙ (laws d).orders (without_frozen (at st)) p first y.1 l.other-long (omega arith) (l.same ∙ sym (take-take (free st.n) (free st.n) order (le_refl (free st.n))))
+        ∙ (laws d).orders (without_frozen (at st)) p first y.1 l.other_long (omega arith) (l.same ∙ sym (take-take (free st.n) (free st.n) order (le_refl (free st.n))))
 
     worked_beside : first_of (tests_marked c (at st) order s) ≡ 0
         → Beside (perform_under marks c st order s).state (perform_under marks c st order s).store ((perform d y.0 p y.1).state, (perform d y.0 p y.1).store)
@@ -80,46 +80,46 @@ module _ (marks : ℕ) (some : marks ≡ 0 → ⊥) (order p : List ℕ) where
           contents = record { long_left = both.long_left; long_right = both.long_right; alike = both.alike; held_alike = both.held_alike };
         }))
 
-    refused-beside : (first_of (tests_marked c (at st) order s) ≡ 0 → ⊥) → Beside (perform_under marks c st order s).state (perform_under marks c st order s).store y
+    refused_beside : (first_of (tests_marked c (at st) order s) ≡ 0 → ⊥) → Beside (perform_under marks c st order s).state (perform_under marks c st order s).store y
     unfolding perform_under
-    refused-beside h =
+    refused_beside h =
         let k = first_of (tests_marked c (at st) order s) in
         subst (λ (x : MarkedOutcome). Beside (whole x.state) x.store y) (sym (marked_refused (at st) order s c some h))
         (subst (λ (x : Plain). Beside x (refusal_marked c k (at st) s).store y) (sym (refusal-state c k st s))
         (subst (λ (x : List Float). Beside st x y) (sym (refusal-store c k st s)) b))
 
     -- one call of a run: the reduced problem's goes beside it where it passes its tests
-    one-beside : (x : Plain × List Float) (ds : List Call)
+    one_beside : (x : Plain × List Float) (ds : List Call)
         → ((z : Plain × List Float) → Beside (perform_under marks c st order s).state (perform_under marks c st order s).store z → Beside x.0 x.1 (run perform p ds z.0 z.1))
         → Beside x.0 x.1 (run perform p (elim (eqb (first_of (tests_marked c (at st) order s)) 0) [ true ↦ d ∷ ds | false ↦ ds ]) y.0 y.1)
     unfolding run
-    one-beside x ds f = by (eqb (first_of (tests_marked c (at st) order s)) 0) refl
+    one_beside x ds f = by (eqb (first_of (tests_marked c (at st) order s)) 0) refl
       where
         by : (z : Bool) → eqb (first_of (tests_marked c (at st) order s)) 0 ≡ z → Beside x.0 x.1 (run perform p (elim z [ true ↦ d ∷ ds | false ↦ ds ]) y.0 y.1)
         by true z = f ((perform d y.0 p y.1).state, (perform d y.0 p y.1).store) (worked_beside (eqb-true (first_of (tests_marked c (at st) order s)) 0 z))
-        by false z = f y (refused-beside (eqb-false (first_of (tests_marked c (at st) order s)) 0 z))
+        by false z = f y (refused_beside (eqb-false (first_of (tests_marked c (at st) order s)) 0 z))
 
-  beside-run : (cs : List Call) (st : Plain) (s : List Float) (y : Plain × List Float) → Beside st s y → Lists st.n
-      → (let x = run (perform_under marks) order cs st s in Beside x.0 x.1 (run perform p (reducedRun marks order cs st s) y.0 y.1))
-  unfolding run reducedRun
-  beside-run [] st s y b l = b
-  beside-run (c ∷ cs) st s y b l =
+  beside_run : (cs : List Call) (st : Plain) (s : List Float) (y : Plain × List Float) → Beside st s y → Lists st.n
+      → (let x = run (perform_under marks) order cs st s in Beside x.0 x.1 (run perform p (reduced_run marks order cs st s) y.0 y.1))
+  unfolding run reduced_run
+  beside_run [] st s y b l = b
+  beside_run (c ∷ cs) st s y b l =
       let o = perform_under marks c st order s in
       let k = sym (ap (λ (x : Plain). x.n) ((laws_under marks c).sizes st order s)) in
-      one-beside c st s y b l (run (perform_under marks) order cs o.state o.store) (reducedRun marks order cs o.state o.store) (λ z h. beside-run cs o.state o.store z h (subst Lists k l))
+      one_beside c st s y b l (run (perform_under marks) order cs o.state o.store) (reduced_run marks order cs o.state o.store) (λ z h. beside_run cs o.state o.store z h (subst Lists k l))
 
   -- LAW: after any run of calls, by the run of those that passed, on the problem without the frozen columns
-  pub frozen-run-is-reduced : (st : Plain) (s t : List Float) → free st.n ≤ length order → free st.n ≤ length p → take (free st.n) p ≡ take (free st.n) order
+  pub frozen_run_is_reduced : (st : Plain) (s t : List Float) → free st.n ≤ length order → free st.n ≤ length p → take (free st.n) p ≡ take (free st.n) order
       → SameContents (without_frozen (marked marks st)) (narrowed_in (marked marks st) s) t → (cs : List Call) (c : Call)
       → (let x = run (perform_under marks) order cs st s in
-      let y = run perform p (reducedRun marks order cs st s) (without_frozen (marked marks st)) t in
+      let y = run perform p (reduced_run marks order cs st s) (without_frozen (marked marks st)) t in
       NoneHold (tests_marked c (marked marks x.0) order x.1)
       → ReadAs c (marked marks x.0) (perform (reduced_call (marked marks x.0) c) y.0 p y.1) (perform_marked c (marked marks x.0) order x.1))
-  frozen-run-is-reduced st s t l k e a cs c h =
+  frozen_run_is_reduced st s t l k e a cs c h =
       let x = run (perform_under marks) order cs st s in
-      let y = run perform p (reducedRun marks order cs st s) (without_frozen (marked marks st)) t in
-      let b = beside-run cs st s (without_frozen (marked marks st), t) (record { state = refl; contents = a }) (record { order_long = l; other-long = k; same = e }) in
+      let y = run perform p (reduced_run marks order cs st s) (without_frozen (marked marks st)) t in
+      let b = beside_run cs st s (without_frozen (marked marks st), t) (record { state = refl; contents = a }) (record { order_long = l; other_long = k; same = e }) in
       let n = sym (run-size (perform_under marks) is_held (settling_under marks) (laws_under marks) order cs st s) in
-      let w : Lists x.0.n = subst Lists n (record { order_long = l; other-long = k; same = e }) in
+      let w : Lists x.0.n = subst Lists n (record { order_long = l; other_long = k; same = e }) in
       subst (λ (z : Plain). ReadAs c (at x.0) (perform (reduced_call (at x.0) c) z p y.1) (perform_marked c (at x.0) order x.1)) (sym b.state)
-      (frozen-any-slices c (at x.0) order x.1 some h w.order_long p y.1 w.other-long w.same b.contents)
+      (frozen_any_slices c (at x.0) order x.1 some h w.order_long p y.1 w.other_long w.same b.contents)

@@ -59,18 +59,18 @@ module _ (marks : ℕ) where
 
   module _ (o p : List ℕ) where
     -- LAW
-    pub frozen-same-run : (cs : List Call) (st : Plain) (s t : List Float) → SameContents st s t → st.n ≤ length o → st.n ≤ length p → take st.n o ≡ take st.n p → (c : Call)
+    pub frozen_same-run : (cs : List Call) (st : Plain) (s t : List Float) → SameContents st s t → st.n ≤ length o → st.n ≤ length p → take st.n o ≡ take st.n p → (c : Call)
         → (let x = run (perform_under marks) o cs st s in
         let y = run (perform_under marks) p cs st t in
         ToldAlike (perform_under marks c x.0 o x.1) (perform_under marks c y.0 p y.1))
     unfolding run
-    frozen-same-run [] st s t w lo lp e c = subst (λ (z : Outcome). ToldAlike (perform_under marks c st o s) z) ((laws_under marks c).orders st o p t lo lp e) (both_told c st o s t w)
-    frozen-same-run (d ∷ cs) st s t w lo lp e c =
+    frozen_same-run [] st s t w lo lp e c = subst (λ (z : Outcome). ToldAlike (perform_under marks c st o s) z) ((laws_under marks c).orders st o p t lo lp e) (both_told c st o s t w)
+    frozen_same-run (d ∷ cs) st s t w lo lp e c =
         let x = perform_under marks d st o s in
         let y = perform_under marks d st o t in
         let z = perform_under marks d st p t in
         let n : st.n ≡ y.state.n = sym (ap (λ (q : Plain). q.n) ((laws_under marks d).sizes st o t)) in
-        let r = frozen-same-run cs y.state x.store y.store (both-same d st o s t w) (subst (λ (k : ℕ). k ≤ length o) n lo) (subst (λ (k : ℕ). k ≤ length p) n lp) (subst (λ (k : ℕ). take k o ≡ take k p) n e) c in
+        let r = frozen_same-run cs y.state x.store y.store (both-same d st o s t w) (subst (λ (k : ℕ). k ≤ length o) n lo) (subst (λ (k : ℕ). k ≤ length p) n lp) (subst (λ (k : ℕ). take k o ≡ take k p) n e) c in
         let left = subst (λ (q : Plain). (let a = run (perform_under marks) o cs q x.store in
         let b = run (perform_under marks) p cs y.state y.store in
         ToldAlike (perform_under marks c a.0 o a.1) (perform_under marks c b.0 p b.1))) (sym (both_told d st o s t w).state) r in

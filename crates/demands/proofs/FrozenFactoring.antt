@@ -25,7 +25,7 @@ use Rattle.leaves.proofs.Insides.{neither, inside, within}
 use Rattle.leaves.proofs.Refusals.{refused_iff, passed_iff}
 use Rattle.leaves.proofs.Replies.{answered-refused}
 use Rattle.frozen.specs.Frozen.{marks_of, mark_past}
-use Rattle.frozen.proofs.Reduces.{marks-length, free-columns-length, free_columns-finite}
+use Rattle.frozen.proofs.Reduces.{marks-length, free_columns-length, free_columns-finite}
 use Rattle.factor.specs.Factoring as plain
 use Rattle.factor.specs.Factoring.{finite_room}
 use Rattle.factor.specs.Outcome.{written}
@@ -40,28 +40,28 @@ use Rattle.demands.specs.Calls.{reply_number}
 use Rattle.demands.specs.Factorings.{room_made}
 use Rattle.demands.specs.History.{Call, Outcome}
 use Rattle.demands.specs.Marked.{perform_marked, with_marks, refusal_marked}
-use Rattle.demands.proofs.AsFresh.{empty-call, refused-empties}
-use Rattle.demands.proofs.MarkedForms.{no-marks, factoring_no_marks}
+use Rattle.demands.proofs.AsFresh.{empty-call, refused_empties}
+use Rattle.demands.proofs.MarkedForms.{no_marks, factoring_no_marks}
 use Rattle.demands.proofs.FactoringTable as table
 use Rattle.demands.proofs.TestNumbers.{first_of_lem}
-use Rattle.demands.proofs.FrozenFactored.{free, freeJacobian, one, small, tests, factoring-worked, factoring-stopped, factoring-cases}
+use Rattle.demands.proofs.FrozenFactored.{free, free_jacobian, one, small, tests, factoring-worked, factoring-stopped, factoring_cases}
 
 module _ (m n marks : ℕ) (jacobian residuals s : List Float) (order : List ℕ) (bench : List Float) where
   abbrev few : ℕ
   few = free m n marks jacobian residuals
 
   abbrev smaller : List Float
-  smaller = freeJacobian m n marks jacobian residuals
+  smaller = free_jacobian m n marks jacobian residuals
 
-  abbrev all-tests : List Test
-  all-tests = tests m n marks jacobian residuals s order bench
+  abbrev all_tests : List Test
+  all_tests = tests m n marks jacobian residuals s order bench
 
-  abbrev small-tests : List Test
-  small-tests = plain.factor_tests m few smaller residuals (length (zeros (store_need few))) (length (take few order)) (length (zeros (bench_need m few)))
+  abbrev small_tests : List Test
+  small_tests = plain.factor_tests m few smaller residuals (length (zeros (store_need few))) (length (take few order)) (length (zeros (bench_need m few)))
 
   -- LAW: a factoring with marks that passes its tests passes those of the one without the frozen columns
-  pub small-passes : NoneHold all-tests → NoneHold small-tests
-  small-passes h =
+  pub small_passes : NoneHold all_tests → NoneHold small_tests
+  small_passes h =
       let two = neither (outside m n) (mark_past n marks) h.0 in
       let i = inside m n two.0 in
       let a = neither (ltb (length jacobian) (m * n) || ltb (length residuals) m || ltb (length s) (store_need n) || ltb (length order) n) (ltb (length bench) (bench_need m n)) h.1.0 in
@@ -74,7 +74,7 @@ module _ (m n marks : ℕ) (jacobian residuals s : List Float) (order : List ℕ
       let ol = ltb-false (length order) n b.1 in
       let jl = ltb-false (length jacobian) (m * n) d.0 in
       let wide : m * length (marks_of n marks) ≤ length jacobian = rw count jl in
-      let cl : length smaller ≡ m * few = free-columns-length m (marks_of n marks) jacobian wide in
+      let cl : length smaller ≡ m * few = free_columns-length m (marks_of n marks) jacobian wide in
       let e₁ = le-ltb (length smaller) (m * few) (rw cl (le_refl (m * few))) in
       let e₂ = d.1 in
       let e₃ = le-ltb (length (zeros (store_need few))) (store_need few) (rw (length-replicate (store_need few) plus_zero) (le_refl (store_need few))) in
@@ -100,47 +100,47 @@ module _ (m n marks : ℕ) (jacobian residuals s : List Float) (order : List ℕ
 
   -- ---- with marks
   module _ (some : marks ≡ 0 → ⊥) where
-    met-none : NoneHold all-tests → first_of all-tests ≡ 0
-    met-none h = (passed_iff all-tests refl).1 h
+    met_none : NoneHold all_tests → first_of all_tests ≡ 0
+    met_none h = (passed_iff all_tests refl).1 h
 
-    none_met : first_of all-tests ≡ 0 → NoneHold all-tests
-    none_met e = (passed_iff all-tests refl).0 e
+    none_met : first_of all_tests ≡ 0 → NoneHold all_tests
+    none_met e = (passed_iff all_tests refl).0 e
 
     read_number : (x : Reply Ranges) → reply_number (factored_if m n marks few x made s order bench).reply ≡ reply_number x
     read_number (answered f) = refl
     read_number (refused k) = refl
 
-    worked_number : first_of all-tests ≡ 0 → given ≡ reply_number made.reply
+    worked_number : first_of all_tests ≡ 0 → given ≡ reply_number made.reply
     worked_number e = ap (λ (x : MarkedFactored). reply_number x.reply) (factoring-worked m n marks jacobian residuals s order bench some e) ∙ read_number made.reply
 
-    stopped-number : (first_of all-tests ≡ 0 → ⊥) → given ≡ first_of all-tests
-    stopped-number h = ap (λ (x : MarkedFactored). reply_number x.reply) (factoring-stopped m n marks jacobian residuals s order bench some h)
+    stopped_number : (first_of all_tests ≡ 0 → ⊥) → given ≡ first_of all_tests
+    stopped_number h = ap (λ (x : MarkedFactored). reply_number x.reply) (factoring-stopped m n marks jacobian residuals s order bench some h)
 
-    made-number : first_of all-tests ≡ 0 → (reply_number made.reply ≡ 0) ⊎ (reply_number made.reply ≡ 8)
-    made-number e = by stands refl
+    made_number : first_of all_tests ≡ 0 → (reply_number made.reply ≡ 0) ⊎ (reply_number made.reply ≡ 8)
+    made_number e = by stands refl
       where
-        h : NoneHold small-tests
-        h = small-passes (none_met e)
+        h : NoneHold small_tests
+        h = small_passes (none_met e)
 
         by : (b : Bool) → stands ≡ b → (reply_number made.reply ≡ 0) ⊎ (reply_number made.reply ≡ 8)
         by true z = inl ((table.answered_otherwise m few smaller residuals (zeros (store_need few)) (take few order) (zeros (bench_need m few))).1 (h, z))
         by false z = inr ((table.refused_eight m few smaller residuals (zeros (store_need few)) (take few order) (zeros (bench_need m few))).1 (h, z))
 
-    by_number : (P : ℕ → Type 0) → (first_of all-tests ≡ 0 → P (reply_number made.reply)) → ((first_of all-tests ≡ 0 → ⊥) → P (first_of all-tests)) → P given
-    by_number P p q = by (eqb (first_of all-tests) 0) refl
+    by_number : (P : ℕ → Type 0) → (first_of all_tests ≡ 0 → P (reply_number made.reply)) → ((first_of all_tests ≡ 0 → ⊥) → P (first_of all_tests)) → P given
+    by_number P p q = by (eqb (first_of all_tests) 0) refl
       where
-        by : (b : Bool) → eqb (first_of all-tests) 0 ≡ b → P given
-        by true e = let z = eqb-true (first_of all-tests) 0 e in subst P (sym (worked_number z)) (p z)
-        by false e = let z = eqb-false (first_of all-tests) 0 e in subst P (sym (stopped-number z)) (q z)
+        by : (b : Bool) → eqb (first_of all_tests) 0 ≡ b → P given
+        by true e = let z = eqb-true (first_of all_tests) 0 e in subst P (sym (worked_number z)) (p z)
+        by false e = let z = eqb-false (first_of all_tests) 0 e in subst P (sym (stopped_number z)) (q z)
 
-    tested_other : first_of all-tests ≡ 8 → ⊥
-    tested_other = eqb-false (first_of all-tests) 8 (not-true (eqb (first_of all-tests) 8) (first_of_lem (λ (k : ℕ). not (eqb k 8)) refl all-tests refl))
+    tested_other : first_of all_tests ≡ 8 → ⊥
+    tested_other = eqb-false (first_of all_tests) 8 (not-true (eqb (first_of all_tests) 8) (first_of_lem (λ (k : ℕ). not (eqb k 8)) refl all_tests refl))
 
     -- LAW: every number but 8, in the order of the tests; 9 where no column is free
-    pub factoring-refused : (k : ℕ) → 0 < k → (k ≡ 8 → ⊥) → (given ≡ k) ↔ RefusedBy all-tests k
+    pub factoring-refused : (k : ℕ) → 0 < k → (k ≡ 8 → ⊥) → (given ≡ k) ↔ RefusedBy all_tests k
     factoring-refused k p q = (
-      by_number (λ (g : ℕ). g ≡ k → RefusedBy all-tests k) (λ z e. absurd (apart (made-number z) e)) (λ h e. (refused_iff all-tests k p).0 e),
-      λ r. let e = (refused_iff all-tests k p).1 r in stopped-number (λ z. let j = sym e ∙ z in omega arith) ∙ e,
+      by_number (λ (g : ℕ). g ≡ k → RefusedBy all_tests k) (λ z e. absurd (apart (made_number z) e)) (λ h e. (refused_iff all_tests k p).0 e),
+      λ r. let e = (refused_iff all_tests k p).1 r in stopped_number (λ z. let j = sym e ∙ z in omega arith) ∙ e,
     )
       where
         apart : (reply_number made.reply ≡ 0) ⊎ (reply_number made.reply ≡ 8) → reply_number made.reply ≡ k → ⊥
@@ -148,24 +148,24 @@ module _ (m n marks : ℕ) (jacobian residuals s : List Float) (order : List ℕ
         apart (inr z) e = q (sym e ∙ z)
 
     -- LAW: and then the lent slices are as they came, the state empty
-    pub factoring-unchanged : (k : ℕ) → 0 < k → RefusedBy all-tests k → one m n marks jacobian residuals s order bench ≡ marked_factored (refused k) no_problem s order bench
-    factoring-unchanged k p r =
-        let e = (refused_iff all-tests k p).1 r in
+    pub factoring_unchanged : (k : ℕ) → 0 < k → RefusedBy all_tests k → one m n marks jacobian residuals s order bench ≡ marked_factored (refused k) no_problem s order bench
+    factoring_unchanged k p r =
+        let e = (refused_iff all_tests k p).1 r in
         factoring-stopped m n marks jacobian residuals s order bench some (λ z. let j = sym e ∙ z in omega arith) ∙ ap (λ (i : ℕ). marked_factored (refused i) no_problem s order bench) e
 
     -- LAW: 8, by the factoring without the frozen columns
-    pub factoring-eight : (given ≡ 8) ↔ (NoneHold all-tests × (stands ≡ false))
-    factoring-eight =
+    pub factoring_eight : (given ≡ 8) ↔ (NoneHold all_tests × (stands ≡ false))
+    factoring_eight =
         let t = table.refused_eight m few smaller residuals (zeros (store_need few)) (take few order) (zeros (bench_need m few)) in (
-          by_number (λ (g : ℕ). g ≡ 8 → NoneHold all-tests × (stands ≡ false)) (λ z e. (none_met z, (t.0 e).1)) (λ h e. absurd (tested_other e)),
-          λ w. worked_number (met-none w.0) ∙ t.1 (small-passes w.0, w.1),
+          by_number (λ (g : ℕ). g ≡ 8 → NoneHold all_tests × (stands ≡ false)) (λ z e. (none_met z, (t.0 e).1)) (λ h e. absurd (tested_other e)),
+          λ w. worked_number (met_none w.0) ∙ t.1 (small_passes w.0, w.1),
         )
 
     -- LAW: and then all is as after a factoring without marks that is refused 8
-    pub factoring-eight-left : given ≡ 8
+    pub factoring_eight_left : given ≡ 8
         → one m n marks jacobian residuals s order bench ≡ marked_factored (refused 8) no_problem (written (zeros (store_need n)) s) (count_from n 0 ++ drop n order) (written (zeros (bench_need m n)) bench)
-    factoring-eight-left h =
-        let e = met-none (factoring-eight.0 h).0 in
+    factoring_eight_left h =
+        let e = met_none (factoring_eight.0 h).0 in
         factoring-worked m n marks jacobian residuals s order bench some e ∙ ap (λ (x : Reply Ranges). factored_if m n marks few x made s order bench) (by made.reply (sym (worked_number e) ∙ h))
       where
         by : (x : Reply Ranges) → reply_number x ≡ 8 → x ≡ refused 8
@@ -173,36 +173,36 @@ module _ (m n marks : ℕ) (jacobian residuals s : List Float) (order : List ℕ
         by (refused k) z = ap refused z
 
     -- LAW: answered
-    pub factoring-answered : (given ≡ 0) ↔ (NoneHold all-tests × (stands ≡ true))
+    pub factoring-answered : (given ≡ 0) ↔ (NoneHold all_tests × (stands ≡ true))
     factoring-answered =
         let t = table.answered_otherwise m few smaller residuals (zeros (store_need few)) (take few order) (zeros (bench_need m few)) in (
-          by_number (λ (g : ℕ). g ≡ 0 → NoneHold all-tests × (stands ≡ true)) (λ z e. (none_met z, (t.0 e).1)) (λ h e. absurd (h e)),
-          λ w. worked_number (met-none w.0) ∙ t.1 (small-passes w.0, w.1),
+          by_number (λ (g : ℕ). g ≡ 0 → NoneHold all_tests × (stands ≡ true)) (λ z e. (none_met z, (t.0 e).1)) (λ h e. absurd (h e)),
+          λ w. worked_number (met_none w.0) ∙ t.1 (small_passes w.0, w.1),
         )
 
   -- ---- a factoring that is refused hands back the empty state, which has no mark
   some-empty : (marks ≡ 0 → ⊥) → (k : ℕ) → (one m n marks jacobian residuals s order bench).reply ≡ refused k → (one m n marks jacobian residuals s order bench).state ≡ no_problem
-  some-empty some k = factoring-cases m n marks jacobian residuals s order bench some (λ (o : MarkedFactored). o.reply ≡ refused k → o.state ≡ no_problem) (λ z. by made.reply) (λ h e. refl)
+  some-empty some k = factoring_cases m n marks jacobian residuals s order bench some (λ (o : MarkedFactored). o.reply ≡ refused k → o.state ≡ no_problem) (λ z. by made.reply) (λ h e. refl)
     where
       by : (x : Reply Ranges) → (let o = factored_if m n marks few x made s order bench in o.reply ≡ refused k → o.state ≡ no_problem)
       by (answered f) e = answered-refused e
       by (refused j) e = refl
 
-  none-empty : marks ≡ 0 → (k : ℕ) → (one m n marks jacobian residuals s order bench).reply ≡ refused k → (one m n marks jacobian residuals s order bench).state ≡ no_problem
-  none-empty z k h =
+  none_empty : marks ≡ 0 → (k : ℕ) → (one m n marks jacobian residuals s order bench).reply ≡ refused k → (one m n marks jacobian residuals s order bench).state ≡ no_problem
+  none_empty z k h =
       let e : one m n marks jacobian residuals s order bench ≡ factored_as (plain.factor_call m n jacobian residuals s order bench) =
       ap (λ (i : ℕ). marked_factoring m n i jacobian residuals s order bench) z ∙ factoring_no_marks m n jacobian residuals s order bench in
-      ap (λ (x : MarkedFactored). x.state) e ∙ ap (λ (x : Plain). marked 0 x) (refused-empties m n jacobian residuals s order bench k (ap (λ (x : MarkedFactored). x.reply) (sym e) ∙ h))
+      ap (λ (x : MarkedFactored). x.state) e ∙ ap (λ (x : Plain). marked 0 x) (refused_empties m n jacobian residuals s order bench k (ap (λ (x : MarkedFactored). x.reply) (sym e) ∙ h))
 
   pub refused-state : (k : ℕ) → (one m n marks jacobian residuals s order bench).reply ≡ refused k → (one m n marks jacobian residuals s order bench).state ≡ no_problem
   refused-state k h = by (eqb marks 0) refl
     where
       by : (b : Bool) → eqb marks 0 ≡ b → (one m n marks jacobian residuals s order bench).state ≡ no_problem
-      by true e = none-empty (eqb-true marks 0 e) k h
+      by true e = none_empty (eqb-true marks 0 e) k h
       by false e = some-empty (eqb-false marks 0 e) k h
 
   -- LAW: then every call answers 5 and changes nothing
-  pub frozen-after-refused : (k : ℕ) → (one m n marks jacobian residuals s order bench).reply ≡ refused k → (c : Call) (o : List ℕ) (t : List Float)
+  pub frozen_after_refused : (k : ℕ) → (one m n marks jacobian residuals s order bench).reply ≡ refused k → (c : Call) (o : List ℕ) (t : List Float)
       → perform_marked c (one m n marks jacobian residuals s order bench).state o t ≡ refusal_marked c 5 no_problem t
-  frozen-after-refused k h c o t =
-      ap (λ (st : State). perform_marked c st o t) (refused-state k h) ∙ no-marks no_problem o t c refl ∙ ap (λ (x : Outcome). with_marks 0 x) (empty-call c state.empty o t refl)
+  frozen_after_refused k h c o t =
+      ap (λ (st : State). perform_marked c st o t) (refused-state k h) ∙ no_marks no_problem o t c refl ∙ ap (λ (x : Outcome). with_marks 0 x) (empty-call c state.empty o t refl)

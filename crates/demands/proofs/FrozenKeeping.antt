@@ -99,68 +99,68 @@ module _ (st : State) (x y r t : Room) (b : x.below ≡ y.below) (l : x.ldiag �
         ap zeros (z.ldiag_long ∙ sym w.ldiag_long),
       )
 
-  pub left-settles : (c : Call) → is_solve c ≡ true → (below_left c st x r ≡ below_left c st y t) × (ldiag_left c st x r ≡ ldiag_left c st y t)
+  pub left_settles : (c : Call) → is_solve c ≡ true → (below_left c st x r ≡ below_left c st y t) × (ldiag_left c st x r ≡ ldiag_left c st y t)
   unfolding below_left ldiag_left
-  left-settles (base (zero_solve out)) h = cleared-alike
-  left-settles (base (damped_solve diag out)) h = (ap (λ (v : List (List Float)). widened st.n v) b, ap (λ (v : List Float). padded st.n v) l)
-  left-settles (base (held_solve rhs out)) h = absurd (true≢false (sym h))
-  left-settles (base (held_product out)) h = absurd (true≢false (sym h))
-  left-settles (base (gradient bnorm)) h = absurd (true≢false (sym h))
-  left-settles (base (above bnorm limit)) h = absurd (true≢false (sym h))
-  left-settles (base (jx_norm v)) h = absurd (true≢false (sym h))
-  left-settles (base (scaling md diag v bound)) h = absurd (true≢false (sym h))
-  left-settles (base determined) h = absurd (true≢false (sym h))
-  left-settles (base non_singular) h = absurd (true≢false (sym h))
-  left-settles (search diag radius lambda out) h = cleared-alike
+  left_settles (base (zero_solve out)) h = cleared-alike
+  left_settles (base (damped_solve diag out)) h = (ap (λ (v : List (List Float)). widened st.n v) b, ap (λ (v : List Float). padded st.n v) l)
+  left_settles (base (held_solve rhs out)) h = absurd (true≢false (sym h))
+  left_settles (base (held_product out)) h = absurd (true≢false (sym h))
+  left_settles (base (gradient bnorm)) h = absurd (true≢false (sym h))
+  left_settles (base (above bnorm limit)) h = absurd (true≢false (sym h))
+  left_settles (base (jx_norm v)) h = absurd (true≢false (sym h))
+  left_settles (base (scaling md diag v bound)) h = absurd (true≢false (sym h))
+  left_settles (base determined) h = absurd (true≢false (sym h))
+  left_settles (base non_singular) h = absurd (true≢false (sym h))
+  left_settles (search diag radius lambda out) h = cleared-alike
 
 -- ---- whatever is held
 module _ (st : State) (h : Held) where
-  pub reduced-fresh : (c : Call) → reduced_call (marked_held st h) c ≡ reduced_call st c
+  pub reduced_fresh : (c : Call) → reduced_call (marked_held st h) c ≡ reduced_call st c
   unfolding reduced_call
-  reduced-fresh (base (zero_solve out)) = refl
-  reduced-fresh (base (damped_solve diag out)) = refl
-  reduced-fresh (base (held_solve rhs out)) = refl
-  reduced-fresh (base (held_product out)) = refl
-  reduced-fresh (base (gradient bnorm)) = refl
-  reduced-fresh (base (above bnorm limit)) = refl
-  reduced-fresh (base (jx_norm x)) = refl
-  reduced-fresh (base (scaling md diag x bound)) = refl
-  reduced-fresh (base determined) = refl
-  reduced-fresh (base non_singular) = refl
-  reduced-fresh (search diag radius lambda out) = refl
+  reduced_fresh (base (zero_solve out)) = refl
+  reduced_fresh (base (damped_solve diag out)) = refl
+  reduced_fresh (base (held_solve rhs out)) = refl
+  reduced_fresh (base (held_product out)) = refl
+  reduced_fresh (base (gradient bnorm)) = refl
+  reduced_fresh (base (above bnorm limit)) = refl
+  reduced_fresh (base (jx_norm x)) = refl
+  reduced_fresh (base (scaling md diag x bound)) = refl
+  reduced_fresh (base determined) = refl
+  reduced_fresh (base non_singular) = refl
+  reduced_fresh (search diag radius lambda out) = refl
 
-  pub back-fresh : (c : Call) (s : List Float) (e : Outcome) → read_back c (marked_held st h) s e ≡ read_back c st s e
+  pub back_fresh : (c : Call) (s : List Float) (e : Outcome) → read_back c (marked_held st h) s e ≡ read_back c st s e
   unfolding store_back answered_out
-  back-fresh (base (zero_solve out)) s e = refl
-  back-fresh (base (damped_solve diag out)) s e = refl
-  back-fresh (base (held_solve rhs out)) s e = refl
-  back-fresh (base (held_product out)) s e = refl
-  back-fresh (base (gradient bnorm)) s e = refl
-  back-fresh (base (above bnorm limit)) s e = refl
-  back-fresh (base (jx_norm x)) s e = refl
-  back-fresh (base (scaling md diag x bound)) s e = refl
-  back-fresh (base determined) s e = refl
-  back-fresh (base non_singular) s e = refl
-  back-fresh (search diag radius lambda out) s e = refl
+  back_fresh (base (zero_solve out)) s e = refl
+  back_fresh (base (damped_solve diag out)) s e = refl
+  back_fresh (base (held_solve rhs out)) s e = refl
+  back_fresh (base (held_product out)) s e = refl
+  back_fresh (base (gradient bnorm)) s e = refl
+  back_fresh (base (above bnorm limit)) s e = refl
+  back_fresh (base (jx_norm x)) s e = refl
+  back_fresh (base (scaling md diag x bound)) s e = refl
+  back_fresh (base determined) s e = refl
+  back_fresh (base non_singular) s e = refl
+  back_fresh (search diag radius lambda out) s e = refl
 
   -- a solve's tests but the first
-  pub further-fresh : (c : Call) (order : List ℕ) → is_solve c ≡ true → (shortest_by c (marked_held st h) order ≡ shortest_by c st order) × (further_by c (marked_held st h) order ≡ further_by c st order)
+  pub further_fresh : (c : Call) (order : List ℕ) → is_solve c ≡ true → (shortest_by c (marked_held st h) order ≡ shortest_by c st order) × (further_by c (marked_held st h) order ≡ further_by c st order)
   unfolding shortest_by shortest_of further_by
-  further-fresh (base (zero_solve out)) order i = (refl, refl)
-  further-fresh (base (damped_solve diag out)) order i = (refl, refl)
-  further-fresh (base (held_solve rhs out)) order i = absurd (true≢false (sym i))
-  further-fresh (base (held_product out)) order i = absurd (true≢false (sym i))
-  further-fresh (base (gradient bnorm)) order i = absurd (true≢false (sym i))
-  further-fresh (base (above bnorm limit)) order i = absurd (true≢false (sym i))
-  further-fresh (base (jx_norm x)) order i = absurd (true≢false (sym i))
-  further-fresh (base (scaling md diag x bound)) order i = absurd (true≢false (sym i))
-  further-fresh (base determined) order i = absurd (true≢false (sym i))
-  further-fresh (base non_singular) order i = absurd (true≢false (sym i))
-  further-fresh (search diag radius lambda out) order i = (refl, refl)
+  further_fresh (base (zero_solve out)) order i = (refl, refl)
+  further_fresh (base (damped_solve diag out)) order i = (refl, refl)
+  further_fresh (base (held_solve rhs out)) order i = absurd (true≢false (sym i))
+  further_fresh (base (held_product out)) order i = absurd (true≢false (sym i))
+  further_fresh (base (gradient bnorm)) order i = absurd (true≢false (sym i))
+  further_fresh (base (above bnorm limit)) order i = absurd (true≢false (sym i))
+  further_fresh (base (jx_norm x)) order i = absurd (true≢false (sym i))
+  further_fresh (base (scaling md diag x bound)) order i = absurd (true≢false (sym i))
+  further_fresh (base determined) order i = absurd (true≢false (sym i))
+  further_fresh (base non_singular) order i = absurd (true≢false (sym i))
+  further_fresh (search diag radius lambda out) order i = (refl, refl)
 
-  pub tests-fresh : (c : Call) (order : List ℕ) (s : List Float) → is_solve c ≡ true → is_empty h ≡ false → is_empty st.held ≡ false → tests_marked c (marked_held st h) order s ≡ tests_marked c st order s
-  tests-fresh c order s i e f =
-      let g = further-fresh c order i in
+  pub tests_fresh : (c : Call) (order : List ℕ) (s : List Float) → is_solve c ≡ true → is_empty h ≡ false → is_empty st.held ≡ false → tests_marked c (marked_held st h) order s ≡ tests_marked c st order s
+  tests_fresh c order s i e f =
+      let g = further_fresh c order i in
       tests_split c (marked_held st h) order s ∙ rw (e, f, g.0, g.1) refl ∙ sym (tests_split c st order s)
 
 -- ---- of a store that is long enough the tests ask nothing else
@@ -175,22 +175,22 @@ module _ (st : State) (o p : List ℕ) (lo : st.n ≤ length o) (lp : st.n ≤ l
       let f = free_count-fits st.n st.marks in
       sym (take-take (cols st) st.n o f) ∙ ap (λ (l : List ℕ). take (cols st) l) same ∙ take-take (cols st) st.n p f
 
-  shortest-same : (c : Call) → ltb (shortest_by c st o) st.n ≡ ltb (shortest_by c st p) st.n
+  shortest_same : (c : Call) → ltb (shortest_by c st o) st.n ≡ ltb (shortest_by c st p) st.n
   unfolding shortest_by shortest_of
-  shortest-same (base (zero_solve out)) = least-same st.n (length o) (length p) (length out) lo lp
-  shortest-same (base (damped_solve diag out)) = least-same st.n (length o) (length p) (min (length diag) (length out)) lo lp
-  shortest-same (base (held_solve rhs out)) = least-same st.n (length o) (length p) (min (length rhs) (length out)) lo lp
-  shortest-same (base (held_product out)) = refl
-  shortest-same (base (gradient bnorm)) = le-ltb (length o) st.n lo ∙ sym (le-ltb (length p) st.n lp)
-  shortest-same (base (above bnorm limit)) = le-ltb (length o) st.n lo ∙ sym (le-ltb (length p) st.n lp)
-  shortest-same (base (jx_norm x)) = least-same st.n (length o) (length p) (length x) lo lp
-  shortest-same (base (scaling mode.FirstScaled diag x bound)) = refl
-  shortest-same (base (scaling mode.FirstUnscaled diag x bound)) = refl
-  shortest-same (base (scaling mode.LaterScaled diag x bound)) = refl
-  shortest-same (base (scaling mode.LaterUnscaled diag x bound)) = refl
-  shortest-same (base determined) = refl
-  shortest-same (base non_singular) = refl
-  shortest-same (search diag radius lambda out) = least-same st.n (length o) (length p) (min (length diag) (length out)) lo lp
+  shortest_same (base (zero_solve out)) = least-same st.n (length o) (length p) (length out) lo lp
+  shortest_same (base (damped_solve diag out)) = least-same st.n (length o) (length p) (min (length diag) (length out)) lo lp
+  shortest_same (base (held_solve rhs out)) = least-same st.n (length o) (length p) (min (length rhs) (length out)) lo lp
+  shortest_same (base (held_product out)) = refl
+  shortest_same (base (gradient bnorm)) = le-ltb (length o) st.n lo ∙ sym (le-ltb (length p) st.n lp)
+  shortest_same (base (above bnorm limit)) = le-ltb (length o) st.n lo ∙ sym (le-ltb (length p) st.n lp)
+  shortest_same (base (jx_norm x)) = least-same st.n (length o) (length p) (length x) lo lp
+  shortest_same (base (scaling mode.FirstScaled diag x bound)) = refl
+  shortest_same (base (scaling mode.FirstUnscaled diag x bound)) = refl
+  shortest_same (base (scaling mode.LaterScaled diag x bound)) = refl
+  shortest_same (base (scaling mode.LaterUnscaled diag x bound)) = refl
+  shortest_same (base determined) = refl
+  shortest_same (base non_singular) = refl
+  shortest_same (search diag radius lambda out) = least-same st.n (length o) (length p) (min (length diag) (length out)) lo lp
 
   order_same : form_test st o ≡ form_test st p
   order_same = rw (first_same, same)
@@ -213,4 +213,4 @@ module _ (st : State) (o p : List ℕ) (lo : st.n ≤ length o) (lp : st.n ≤ l
   further_same (search diag radius lambda out) = rw order_same
 
   pub tests_same : (c : Call) (s : List Float) → tests_marked c st o s ≡ tests_marked c st p s
-  tests_same c s = tests_split c st o s ∙ rw (shortest-same c, further_same c) refl ∙ sym (tests_split c st p s)
+  tests_same c s = tests_split c st o s ∙ rw (shortest_same c, further_same c) refl ∙ sym (tests_split c st p s)

@@ -31,11 +31,11 @@ use Rattle.demands.specs.Marked.{MarkedOutcome, perform_marked, tests_marked, re
 use Rattle.demands.proofs.Keeping.{Settled, Unsettled, leaving-kept, four_parts, same_length, work-left}
 use Rattle.demands.proofs.Laws.{past_checks, laws}
 use Rattle.demands.proofs.Tables as table
-use Rattle.demands.proofs.MarkedForms.{marked_refused, marked-worked, marked-cases, holds_on}
-use Rattle.demands.proofs.ReducedTests.{shortest_by, marked-ready, fewer, small-long, reduced-passes}
-use Rattle.demands.proofs.FrozenTable.{met-none, none_met, given-number, frozen-answered, frozen-eight}
-use Rattle.demands.proofs.FrozenRooms.{narrow-alike, narrow-held-alike, left_in, left-shaped, room-left, below_left, ldiag_left}
-use Rattle.demands.proofs.FrozenKeeping.{solve_still, held_still, left_rests, left-settles, reduced-fresh, back-fresh, tests-fresh, tests_long, first_same, tests_same}
+use Rattle.demands.proofs.MarkedForms.{marked_refused, marked-worked, marked_cases, holds_on}
+use Rattle.demands.proofs.ReducedTests.{shortest_by, marked_ready, fewer, small_long, reduced-passes}
+use Rattle.demands.proofs.FrozenTable.{met_none, none_met, given_number, frozen_answered, frozen_eight}
+use Rattle.demands.proofs.FrozenRooms.{narrow-alike, narrow-held-alike, left_in, left_shaped, room_left, below_left, ldiag_left}
+use Rattle.demands.proofs.FrozenKeeping.{solve_still, held_still, left_rests, left_settles, reduced_fresh, back_fresh, tests_fresh, tests_long, first_same, tests_same}
 
 -- ---- a refusal leaves everything
 module _ (c : Call) (k : ℕ) (st : Plain) (s : List Float) where
@@ -83,34 +83,34 @@ module _ (c : Call) (st : State) (order : List ℕ) (m : st.marks ≡ 0 → ⊥)
   small = reduced_outcome c st order s
 
   module _ (e : tested ≡ 0) where
-    pub is-ready : Ready st s (shortest_by c st order)
-    is-ready = marked-ready c st order s (none_met c st order s m e)
+    pub is_ready : Ready st s (shortest_by c st order)
+    is_ready = marked_ready c st order s (none_met c st order s m e)
 
-    pub is-fewer : cols st ≤ st.n
-    is-fewer = fewer st s (shortest_by c st order) is-ready
+    pub is_fewer : cols st ≤ st.n
+    is_fewer = fewer st s (shortest_by c st order) is_ready
 
     pub sized : Sized st.n s
-    sized = record { small = is-ready.reducible.few; fits = is-ready.reducible.long }
+    sized = record { small = is_ready.reducible.few; fits = is_ready.reducible.long }
 
     pub small_sized : Sized (cols st) small.store
     small_sized =
-        let f = small-long st s (shortest_by c st order) is-ready in
+        let f = small_long st s (shortest_by c st order) is_ready in
         let g = (laws (reduced_call st c)).lasts (without_frozen st) (take (cols st) order) (narrowed_in st s) in
-        let a = is-ready.reducible.few in
-        let b = is-fewer in
+        let a = is_ready.reducible.few in
+        let b = is_fewer in
         record { small = omega arith; fits = omega arith }
 
     pub room_back : load st.n (store_back c st small.store s) ≡ left_in st small.store s c
-    room_back = room-left st small.store s sized small_sized is-fewer c
+    room_back = room_left st small.store s sized small_sized is_fewer c
 
   -- what is kept
-  pub marked-keeps : Kept (load st.n s) (load st.n (perform_marked c st order s).store)
-  marked-keeps = marked-cases st order s c m (λ (o : MarkedOutcome). Kept (load st.n s) (load st.n o.store))
+  pub marked_keeps : Kept (load st.n s) (load st.n (perform_marked c st order s).store)
+  marked_keeps = marked_cases st order s c m (λ (o : MarkedOutcome). Kept (load st.n s) (load st.n o.store))
       (λ e. subst (λ (x : Room). Kept (load st.n s) x) (sym (room_back e)) (leaving-kept (below_left c st (load (cols st) small.store) (load st.n s)) (ldiag_left c st (load (cols st) small.store) (load st.n s)) (load st.n s)))
       (λ h. subst (λ (x : List Float). Kept (load st.n s) (load st.n x)) (sym (refusal-store c tested (whole st) s)) (record { upper = refl; qtb = refl; norms = refl; rest = refl }))
 
   pub marked-lasts : length (perform_marked c st order s).store ≡ length s
-  marked-lasts = marked-cases st order s c m (λ (o : MarkedOutcome). length o.store ≡ length s)
+  marked-lasts = marked_cases st order s c m (λ (o : MarkedOutcome). length o.store ≡ length s)
       (λ e.
       let r = load st.n s in
       let b = below_left c st (load (cols st) small.store) r in
@@ -118,40 +118,40 @@ module _ (c : Call) (st : State) (order : List ℕ) (m : st.marks ≡ 0 → ⊥)
       let t = store_back c st small.store s in
       let a = room_back e in
       same_length st.n s t (sized e).fits
-      (four_parts st.n t (is-ready e).sizes.cols_some (work-left st.n b l r (load st.n t) a (left-shaped st small.store s (sized e) (small_sized e) (is-fewer e) c)))
+      (four_parts st.n t (is_ready e).sizes.cols_some (work-left st.n b l r (load st.n t) a (left_shaped st small.store s (sized e) (small_sized e) (is_fewer e) c)))
       (ap (λ (x : Room). x.rest) a ∙ (leaving-kept b l r).rest))
       (λ h. ap length (refusal-store c tested (whole st) s))
 
   -- when it settles
-  abbrev pub settles-here : Bool
-  settles-here = let k = number_of (perform_marked c st order s).answer in is_solve c && (eqb k 0 || eqb k 8)
+  abbrev pub settles_here : Bool
+  settles_here = let k = number_of (perform_marked c st order s).answer in is_solve c && (eqb k 0 || eqb k 8)
 
-  pub settles-is : settles-here ≡ (is_solve c && eqb tested 0)
-  settles-is = ap (λ (b : Bool). is_solve c && b)
-      (past_checks (number_of (perform_marked c st order s).answer) tested (given-number c st order s m)
-      (λ e. met-none c st order s m ((frozen-answered c st order s m).0 e).0) (λ e. met-none c st order s m ((frozen-eight c st order s m).0 e).0))
+  pub settles_is : settles_here ≡ (is_solve c && eqb tested 0)
+  settles_is = ap (λ (b : Bool). is_solve c && b)
+      (past_checks (number_of (perform_marked c st order s).answer) tested (given_number c st order s m)
+      (λ e. met_none c st order s m ((frozen_answered c st order s m).0 e).0) (λ e. met_none c st order s m ((frozen_eight c st order s m).0 e).0))
 
-  pub settled-both : settles-here ≡ true → (is_solve c ≡ true) × (tested ≡ 0)
-  settled-both h =
-      let w = (and-eq-true_iff (is_solve c) (eqb tested 0)).0 (sym settles-is ∙ h) in
+  pub settled_both : settles_here ≡ true → (is_solve c ≡ true) × (tested ≡ 0)
+  settled_both h =
+      let w = (and-eq-true_iff (is_solve c) (eqb tested 0)).0 (sym settles_is ∙ h) in
       (w.0, eqb-true tested 0 w.1)
 
-  both-settled : is_solve c ≡ true → tested ≡ 0 → settles-here ≡ true
-  both-settled i e = settles-is ∙ (and-eq-true_iff (is_solve c) (eqb tested 0)).1 (i, eq-eqb tested 0 e)
+  both_settled : is_solve c ≡ true → tested ≡ 0 → settles_here ≡ true
+  both_settled i e = settles_is ∙ (and-eq-true_iff (is_solve c) (eqb tested 0)).1 (i, eq-eqb tested 0 e)
 
-  small-settles : is_solve c ≡ true → tested ≡ 0 → settling (reduced_call st c) (without_frozen st) (take (cols st) order) (narrowed_in st s) ≡ true
-  small-settles i e =
+  small_settles : is_solve c ≡ true → tested ≡ 0 → settling (reduced_call st c) (without_frozen st) (take (cols st) order) (narrowed_in st s) ≡ true
+  small_settles i e =
       (table.settles_when (reduced_call st c) (without_frozen st) (take (cols st) order) (narrowed_in st s)).1 (solve_still c st ∙ i, reduced-passes st order s c (none_met c st order s m e))
 
   -- and otherwise
-  pub marked-otherwise : settles-here ≡ false → Unsettled (whole st) (load st.n s) (whole (perform_marked c st order s).state) (load st.n (perform_marked c st order s).store)
-  marked-otherwise h = marked-cases st order s c m (λ (o : MarkedOutcome). Unsettled (whole st) (load st.n s) (whole o.state) (load st.n o.store))
+  pub marked_otherwise : settles_here ≡ false → Unsettled (whole st) (load st.n s) (whole (perform_marked c st order s).state) (load st.n (perform_marked c st order s).store)
+  marked_otherwise h = marked_cases st order s c m (λ (o : MarkedOutcome). Unsettled (whole st) (load st.n s) (whole o.state) (load st.n o.store))
       (λ e.
-      let i = not_solve (is_solve c) (eqb tested 0) (sym settles-is ∙ h) (eq-eqb tested 0 e) in
+      let i = not_solve (is_solve c) (eqb tested 0) (sym settles_is ∙ h) (eq-eqb tested 0 e) in
       let l = left_rests c i st (load (cols st) small.store) (load st.n s) in
       let u = room_back e in
       record {
-        state = ap whole (holds_on st order s c (no-solve (reduced_call st c) (solve_still c st ∙ i)));
+        state = ap whole (holds_on st order s c (no_solve (reduced_call st c) (solve_still c st ∙ i)));
         below = ap (λ (x : Room). x.below) u ∙ leaving-below _ _ (load st.n s) ∙ l.0;
         ldiag = ap (λ (x : Room). x.ldiag) u ∙ leaving_ldiag _ _ (load st.n s) ∙ l.1;
       })
@@ -160,8 +160,8 @@ module _ (c : Call) (st : State) (order : List ℕ) (m : st.marks ≡ 0 → ⊥)
       let b = refusal-store c tested (whole st) s in
       record { state = a; below = ap (λ (x : List Float). (load st.n x).below) b; ldiag = ap (λ (x : List Float). (load st.n x).ldiag) b })
     where
-      no-solve : (d : Call) → is_solve d ≡ false → settling d (without_frozen st) (take (cols st) order) (narrowed_in st s) ≡ false
-      no-solve d i = rw i
+      no_solve : (d : Call) → is_solve d ≡ false → settling d (without_frozen st) (take (cols st) order) (narrowed_in st s) ≡ false
+      no_solve d i = rw i
 
 -- ---- two stores that are long enough, with the same R, qt_b and norms
 module _ (c : Call) (st : State) (order : List ℕ) (m : st.marks ≡ 0 → ⊥) (s t : List Float) (p : store_need st.n ≤ length s) (q : store_need st.n ≤ length t)
@@ -171,39 +171,39 @@ module _ (c : Call) (st : State) (order : List ℕ) (m : st.marks ≡ 0 → ⊥)
 
   -- of the two stores without the frozen columns
   module _ (e : tested c st order m s ≡ 0) where
-    long-small : (x : List Float) → store_need st.n ≤ length x → store_need (cols st) ≤ length (narrowed_in st x)
-    long-small x l = let f = narrowed-length st.n (cols st) x (is-fewer c st order m s e) l in rw f (le_refl (store_need (cols st)))
+    long_small : (x : List Float) → store_need st.n ≤ length x → store_need (cols st) ≤ length (narrowed_in st x)
+    long_small x l = let f = narrowed-length st.n (cols st) x (is_fewer c st order m s e) l in rw f (le_refl (store_need (cols st)))
 
-    small-alike : Alike (load (cols st) (narrowed_in st s)) (load (cols st) (narrowed_in st t))
-    small-alike = narrow-alike st.n (cols st) s t (is-fewer c st order m s e) p q a
+    small_alike : Alike (load (cols st) (narrowed_in st s)) (load (cols st) (narrowed_in st t))
+    small_alike = narrow-alike st.n (cols st) s t (is_fewer c st order m s e) p q a
 
-    small-reads : (is_held c ≡ true → HeldAlike (load st.n s) (load st.n t)) → ToldAlike (small c st order m s) (small c st order m t)
-    small-reads g = (laws (reduced_call st c)).reads (without_frozen st) (take (cols st) order) (narrowed_in st s) (narrowed_in st t) (long-small s p) (long-small t q) small-alike
-        (λ h. narrow-held-alike st.n (cols st) s t (is-fewer c st order m s e) p q (g (sym (held_still c st) ∙ h)))
+    small_reads : (is_held c ≡ true → HeldAlike (load st.n s) (load st.n t)) → ToldAlike (small c st order m s) (small c st order m t)
+    small_reads g = (laws (reduced_call st c)).reads (without_frozen st) (take (cols st) order) (narrowed_in st s) (narrowed_in st t) (long_small s p) (long_small t q) small_alike
+        (λ h. narrow-held-alike st.n (cols st) s t (is_fewer c st order m s e) p q (g (sym (held_still c st) ∙ h)))
 
-  back-told : {e f : Outcome} → ToldAlike e f → ToldAlike (marks_forgotten (read_back c st s e)) (marks_forgotten (read_back c st t f))
-  back-told {e} {f} x = record {
+  back_told : {e f : Outcome} → ToldAlike e f → ToldAlike (marks_forgotten (read_back c st s e)) (marks_forgotten (read_back c st t f))
+  back_told {e} {f} x = record {
     answer = x.answer;
     state = ap (λ (y : Plain). plain.with_held (whole st) y.held) x.state;
     out = ap (λ (y : AnyAnswer). out_back c st y e.out) x.answer ∙ ap (λ (y : List Float). out_back c st f.answer y) x.out;
   }
 
-  pub marked-reads : (is_held c ≡ true → HeldAlike (load st.n s) (load st.n t)) → ToldAlike (marks_forgotten (perform_marked c st order s)) (marks_forgotten (perform_marked c st order t))
-  marked-reads g = marked-cases st order s c m (λ (o : MarkedOutcome). ToldAlike (marks_forgotten o) (marks_forgotten (perform_marked c st order t)))
+  pub marked_reads : (is_held c ≡ true → HeldAlike (load st.n s) (load st.n t)) → ToldAlike (marks_forgotten (perform_marked c st order s)) (marks_forgotten (perform_marked c st order t))
+  marked_reads g = marked_cases st order s c m (λ (o : MarkedOutcome). ToldAlike (marks_forgotten o) (marks_forgotten (perform_marked c st order t)))
       (λ e. subst (λ (o : MarkedOutcome). ToldAlike (marks_forgotten (read_back c st s (small c st order m s))) (marks_forgotten o)) (sym (marked-worked st order t c m (sym tested-same ∙ e)))
-      (back-told (small-reads e g)))
+      (back_told (small_reads e g)))
       (λ h. subst (λ (o : MarkedOutcome). ToldAlike (marks_forgotten (refusal_marked c (tested c st order m s) st s)) (marks_forgotten o)) (sym (marked_refused st order t c m (λ e. h (tested-same ∙ e))))
       (refusal-told c (tested c st order m s) (tested c st order m t) st s t tested-same))
 
-  pub marked-settles : settles-here c st order m s ≡ true → Settled (load st.n (perform_marked c st order s).store) (load st.n (perform_marked c st order t).store)
-  marked-settles h =
-      let w = settled-both c st order m s h in
+  pub marked_settles : settles_here c st order m s ≡ true → Settled (load st.n (perform_marked c st order s).store) (load st.n (perform_marked c st order t).store)
+  marked_settles h =
+      let w = settled_both c st order m s h in
       let e = w.1 in
       let f = sym tested-same ∙ e in
-      let x = (laws (reduced_call st c)).settles (without_frozen st) (take (cols st) order) (narrowed_in st s) (narrowed_in st t) (long-small e s p) (long-small e t q) (small-alike e) (small-settles c st order m s w.0 e) in
+      let x = (laws (reduced_call st c)).settles (without_frozen st) (take (cols st) order) (narrowed_in st s) (narrowed_in st t) (long_small e s p) (long_small e t q) (small_alike e) (small_settles c st order m s w.0 e) in
       let zs = load_shaped st.n s (sized c st order m s e) in
       let zt = load_shaped st.n t (sized c st order m t f) in
-      let l = left-settles st (load (cols st) (small c st order m s).store) (load (cols st) (small c st order m t).store) (load st.n s) (load st.n t) x.below x.ldiag zs zt c w.0 in
+      let l = left_settles st (load (cols st) (small c st order m s).store) (load (cols st) (small c st order m t).store) (load st.n s) (load st.n t) x.below x.ldiag zs zt c w.0 in
       let u = ap (λ (o : MarkedOutcome). load st.n o.store) (marked-worked st order s c m e) ∙ room_back c st order m s e in
       let v = ap (λ (o : MarkedOutcome). load st.n o.store) (marked-worked st order t c m f) ∙ room_back c st order m t f in
       record {
@@ -215,17 +215,17 @@ module _ (c : Call) (st : State) (order : List ℕ) (m : st.marks ≡ 0 → ⊥)
       }
 
 -- ---- whatever is held
-pub marked_fresh : (c : Call) (st : State) (h : Held) (order : List ℕ) (m : st.marks ≡ 0 → ⊥) (s : List Float) → is_empty h ≡ false → settles-here c st order m s ≡ true
-    → (settles-here c (marked_held st h) order m s ≡ true) × (perform_marked c (marked_held st h) order s ≡ perform_marked c st order s)
+pub marked_fresh : (c : Call) (st : State) (h : Held) (order : List ℕ) (m : st.marks ≡ 0 → ⊥) (s : List Float) → is_empty h ≡ false → settles_here c st order m s ≡ true
+    → (settles_here c (marked_held st h) order m s ≡ true) × (perform_marked c (marked_held st h) order s ≡ perform_marked c st order s)
 marked_fresh c st h order m s i g =
-    let w = settled-both c st order m s g in
+    let w = settled_both c st order m s g in
     let e = w.1 in
-    let z = ap first_of (tests-fresh st h c order s w.0 i (is-ready c st order m s e).filled) ∙ e in
+    let z = ap first_of (tests_fresh st h c order s w.0 i (is_ready c st order m s e).filled) ∙ e in
     let o = take (cols st) order in
-    let x = ((laws (reduced_call st c)).fresh (without_frozen st) h o (narrowed_in st s) i (small-settles c st order m s w.0 e)).1 in
-    let y : reduced_outcome c (marked_held st h) order s ≡ reduced_outcome c st order s = ap (λ (d : Call). perform d (plain.with_held (without_frozen st) h) o (narrowed_in st s)) (reduced-fresh st h c) ∙ x in (
-      both-settled c (marked_held st h) order m s w.0 z,
-      marked-worked (marked_held st h) order s c m z ∙ back-fresh st h c s (reduced_outcome c (marked_held st h) order s) ∙ ap (λ (d : Outcome). read_back c st s d) y ∙ sym (marked-worked st order s c m e),
+    let x = ((laws (reduced_call st c)).fresh (without_frozen st) h o (narrowed_in st s) i (small_settles c st order m s w.0 e)).1 in
+    let y : reduced_outcome c (marked_held st h) order s ≡ reduced_outcome c st order s = ap (λ (d : Call). perform d (plain.with_held (without_frozen st) h) o (narrowed_in st s)) (reduced_fresh st h c) ∙ x in (
+      both_settled c (marked_held st h) order m s w.0 z,
+      marked-worked (marked_held st h) order s c m z ∙ back_fresh st h c s (reduced_outcome c (marked_held st h) order s) ∙ ap (λ (d : Outcome). read_back c st s d) y ∙ sym (marked-worked st order s c m e),
     )
 
 -- ---- of the order list the first n alone are read
@@ -234,6 +234,6 @@ pub marked_orders : (c : Call) (st : State) (o p : List ℕ) (m : st.marks ≡ 0
 marked_orders c st o p m s a b e =
     let t = ap first_of (tests_same st o p a b e c s) in
     let y : reduced_outcome c st o s ≡ reduced_outcome c st p s = ap (λ (l : List ℕ). perform (reduced_call st c) (without_frozen st) l (narrowed_in st s)) (first_same st o p a b e) in
-    marked-cases st o s c m (λ (x : MarkedOutcome). x ≡ perform_marked c st p s)
+    marked_cases st o s c m (λ (x : MarkedOutcome). x ≡ perform_marked c st p s)
     (λ z. ap (λ (d : Outcome). read_back c st s d) y ∙ sym (marked-worked st p s c m (sym t ∙ z)))
     (λ h. ap (λ (k : ℕ). refusal_marked c k st s) t ∙ sym (marked_refused st p s c m (λ z. h (t ∙ z))))

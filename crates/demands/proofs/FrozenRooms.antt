@@ -10,12 +10,12 @@ use Rattle.leaves.specs.Square.{uppers_from, belows_from, zeros, cleared}
 use Rattle.leaves.specs.Triangle.{columns}
 use Rattle.leaves.proofs.Squares.{columns-length}
 use Rattle.frozen.specs.Narrowed.{narrowed}
-use Rattle.frozen.proofs.Reduces.{uppers_fewer, belows_fewer, uppers_cut, belows_cut, cut_from, narrowed-columns, narrowed-part}
+use Rattle.frozen.proofs.Reduces.{uppers_fewer, belows_fewer, uppers_cut, belows_cut, cut_from, narrowed-columns, narrowed_part}
 use Rattle.factor.specs.Room.{Room, part, load, lay, leaving}
 use Rattle.factor.specs.Solve.{padded}
 use Rattle.factor.specs.State.{store_need}
 use Rattle.factor.specs.inner.Rooms.{Sized, Shaped}
-use Rattle.factor.proofs.Layouts.{load-lay, load_shaped, leaving-shaped, rested-shaped, emptied-shaped}
+use Rattle.factor.proofs.Layouts.{load-lay, load_shaped, leaving_shaped, rested_shaped, emptied_shaped}
 use Rattle.calls.specs.declared.state.State.{State}
 use Rattle.calls.specs.State.{cols}
 use Rattle.calls.specs.Outcome.{widened}
@@ -47,31 +47,31 @@ module _ (n free : ℕ) (s : List Float) (fits : free ≤ n) (long : store_need 
       ap (λ (cs : List (List Float)). belows_from 0 cs) (narrowed-columns n free s fits long) ∙ belows_cut free 0 (take free (columns n n s))
       ∙ ap (λ (ls : List (List Float)). cut_from free 0 ls) (belows_fewer 0 free (columns n n s))
 
-  pub narrow-qtb : narrow.qtb ≡ take free wide.qtb
+  pub narrow_qtb : narrow.qtb ≡ take free wide.qtb
   unfolding load part
-  narrow-qtb = narrowed-part n free s fits long 0 (omega arith)
+  narrow_qtb = narrowed_part n free s fits long 0 (omega arith)
 
   pub narrow-norms : narrow.norms ≡ take free wide.norms
   unfolding load part
-  narrow-norms = narrowed-part n free s fits long 1 (omega arith)
+  narrow-norms = narrowed_part n free s fits long 1 (omega arith)
 
-  pub narrow-ldiag : narrow.ldiag ≡ take free wide.ldiag
+  pub narrow_ldiag : narrow.ldiag ≡ take free wide.ldiag
   unfolding load part
-  narrow-ldiag = narrowed-part n free s fits long 2 (omega arith)
+  narrow_ldiag = narrowed_part n free s fits long 2 (omega arith)
 
 -- LAW: stores with the same in them have it without the frozen columns too
 module _ (n free : ℕ) (s t : List Float) (fits : free ≤ n) (p : store_need n ≤ length s) (q : store_need n ≤ length t) where
   pub narrow-alike : Alike (load n s) (load n t) → Alike (load free (narrowed n free s)) (load free (narrowed n free t))
   narrow-alike a = record {
     upper = narrow-upper n free s fits p ∙ ap (λ (x : List (List Float)). take free x) a.upper ∙ sym (narrow-upper n free t fits q);
-    qtb = narrow-qtb n free s fits p ∙ ap (λ (x : List Float). take free x) a.qtb ∙ sym (narrow-qtb n free t fits q);
+    qtb = narrow_qtb n free s fits p ∙ ap (λ (x : List Float). take free x) a.qtb ∙ sym (narrow_qtb n free t fits q);
     norms = narrow-norms n free s fits p ∙ ap (λ (x : List Float). take free x) a.norms ∙ sym (narrow-norms n free t fits q);
   }
 
   pub narrow-held-alike : HeldAlike (load n s) (load n t) → HeldAlike (load free (narrowed n free s)) (load free (narrowed n free t))
   narrow-held-alike a = record {
     below = narrow_below n free s fits p ∙ ap (λ (x : List (List Float)). cut_from free 0 (take free x)) a.below ∙ sym (narrow_below n free t fits q);
-    ldiag = narrow-ldiag n free s fits p ∙ ap (λ (x : List Float). take free x) a.ldiag ∙ sym (narrow-ldiag n free t fits q);
+    ldiag = narrow_ldiag n free s fits p ∙ ap (λ (x : List Float). take free x) a.ldiag ∙ sym (narrow_ldiag n free t fits q);
   }
 
 -- ---- the lower part of fewer columns, in n
@@ -144,28 +144,28 @@ module _ (st : State) (small s : List Float) where
     shaped : Shaped st.n (load st.n s)
     shaped = load_shaped st.n s z
 
-    damped-shaped : Shaped st.n (leaving (widened st.n (load (cols st) small).below) (padded st.n (load (cols st) small).ldiag) (load st.n s))
-    damped-shaped =
+    damped_shaped : Shaped st.n (leaving (widened st.n (load (cols st) small).below) (padded st.n (load (cols st) small).ldiag) (load st.n s))
+    damped_shaped =
         let w = load_shaped (cols st) small y in
         let a = w.below_wide in
         let b = w.ldiag_long in
-        leaving-shaped st.n (load st.n s) shaped (widened st.n (load (cols st) small).below) (padded st.n (load (cols st) small).ldiag) (widened-wide st.n (load (cols st) small).below)
+        leaving_shaped st.n (load st.n s) shaped (widened st.n (load (cols st) small).below) (padded st.n (load (cols st) small).ldiag) (widened-wide st.n (load (cols st) small).below)
         (widened_tall st.n (load (cols st) small).below (λ k h. let e = w.below_tall k (omega arith) in omega arith)) (padded-length st.n (load (cols st) small).ldiag (omega arith))
 
-    pub left-shaped : (c : Call) → Shaped st.n (left_in c)
+    pub left_shaped : (c : Call) → Shaped st.n (left_in c)
     unfolding below_left ldiag_left
-    left-shaped (base (zero_solve out)) = emptied-shaped st.n (load st.n s) shaped
-    left-shaped (base (damped_solve diag out)) = damped-shaped
-    left-shaped (base (held_solve rhs out)) = rested-shaped st.n (load st.n s) shaped
-    left-shaped (base (held_product out)) = rested-shaped st.n (load st.n s) shaped
-    left-shaped (base (gradient bnorm)) = rested-shaped st.n (load st.n s) shaped
-    left-shaped (base (above bnorm limit)) = rested-shaped st.n (load st.n s) shaped
-    left-shaped (base (jx_norm x)) = rested-shaped st.n (load st.n s) shaped
-    left-shaped (base (scaling md diag x bound)) = rested-shaped st.n (load st.n s) shaped
-    left-shaped (base determined) = rested-shaped st.n (load st.n s) shaped
-    left-shaped (base non_singular) = rested-shaped st.n (load st.n s) shaped
-    left-shaped (search diag radius lambda out) = emptied-shaped st.n (load st.n s) shaped
+    left_shaped (base (zero_solve out)) = emptied_shaped st.n (load st.n s) shaped
+    left_shaped (base (damped_solve diag out)) = damped_shaped
+    left_shaped (base (held_solve rhs out)) = rested_shaped st.n (load st.n s) shaped
+    left_shaped (base (held_product out)) = rested_shaped st.n (load st.n s) shaped
+    left_shaped (base (gradient bnorm)) = rested_shaped st.n (load st.n s) shaped
+    left_shaped (base (above bnorm limit)) = rested_shaped st.n (load st.n s) shaped
+    left_shaped (base (jx_norm x)) = rested_shaped st.n (load st.n s) shaped
+    left_shaped (base (scaling md diag x bound)) = rested_shaped st.n (load st.n s) shaped
+    left_shaped (base determined) = rested_shaped st.n (load st.n s) shaped
+    left_shaped (base non_singular) = rested_shaped st.n (load st.n s) shaped
+    left_shaped (search diag radius lambda out) = emptied_shaped st.n (load st.n s) shaped
 
     -- LAW
-    pub room-left : (c : Call) → load st.n (store_back c st small s) ≡ left_in c
-    room-left c = ap (λ (x : List Float). load st.n x) (store_laid c) ∙ load-lay st.n (left_in c) (left-shaped c)
+    pub room_left : (c : Call) → load st.n (store_back c st small s) ≡ left_in c
+    room_left c = ap (λ (x : List Float). load st.n x) (store_laid c) ∙ load-lay st.n (left_in c) (left_shaped c)

@@ -27,8 +27,8 @@ use Rattle.demands.proofs.MarkedForms.{marked-worked}
 use Rattle.demands.proofs.ReducedTests.{reduced-passes}
 use Rattle.demands.proofs.FrozenTable.{none_met}
 use Rattle.demands.proofs.FrozenKeeping.{solve_still}
-use Rattle.demands.proofs.FrozenRooms.{narrow-upper, narrow_below, narrow-qtb, narrow-norms, narrow-ldiag}
-use Rattle.demands.proofs.FrozenLaws.{tested, small, is-fewer, sized, small_sized, room_back, leaving-below, leaving_ldiag, marked-keeps, marked-lasts}
+use Rattle.demands.proofs.FrozenRooms.{narrow-upper, narrow_below, narrow_qtb, narrow-norms, narrow_ldiag}
+use Rattle.demands.proofs.FrozenLaws.{tested, small, is_fewer, sized, small_sized, room_back, leaving-below, leaving_ldiag, marked_keeps, marked-lasts}
 use Rattle.demands.proofs.FrozenSimulation.{BackTo, back_to, call_empties}
 
 -- ---- calls without marks on stores with the same in them leave stores with the same in them
@@ -42,11 +42,11 @@ module _ (d : Call) (st : Plain) (o : List ℕ) (s t : List Float) (a : SameCont
   settling-same : settling d st o s ≡ settling d st o t
   settling-same = ap (λ (x : AnyAnswer). is_solve d && (eqb (number_of x) 0 || eqb (number_of x) 8)) told_same.answer
 
-  held-follows : (b : Bool) → settling d st o s ≡ b → HeldAlike (load st.n (after s)) (load st.n (after t))
-  held-follows true e =
+  held_follows : (b : Bool) → settling d st o s ≡ b → HeldAlike (load st.n (after s)) (load st.n (after t))
+  held_follows true e =
       let w = (laws d).settles st o s t a.long_left a.long_right a.alike e in
       record { below = w.below; ldiag = w.ldiag }
-  held-follows false e =
+  held_follows false e =
       let u = (laws d).otherwise st o s e in
       let v = (laws d).otherwise st o t (sym settling-same ∙ e) in
       record { below = u.below ∙ a.held_alike.below ∙ sym v.below; ldiag = u.ldiag ∙ a.held_alike.ldiag ∙ sym v.ldiag }
@@ -67,7 +67,7 @@ module _ (d : Call) (st : Plain) (o : List ℕ) (s t : List Float) (a : SameCont
           qtb = k.qtb ∙ a.alike.qtb ∙ sym j.qtb;
           norms = k.norms ∙ a.alike.norms ∙ sym j.norms;
         };
-        held_alike = held-follows (settling d st o s) refl;
+        held_alike = held_follows (settling d st o s) refl;
       }
 
 pub same-both : {st : Plain} {s t u : List Float} → SameContents st s t → SameContents st t u → SameContents st s u
@@ -87,7 +87,7 @@ module _ (c : Call) (st : State) (order : List ℕ) (m : st.marks ≡ 0 → ⊥)
   first = take (cols st) order
 
   kept-wide : Kept (load st.n s) (load st.n left)
-  kept-wide = subst (λ (o : MarkedOutcome). Kept (load st.n s) (load st.n o.store)) (marked-worked st order s c m e) (marked-keeps c st order m s)
+  kept-wide = subst (λ (o : MarkedOutcome). Kept (load st.n s) (load st.n o.store)) (marked-worked st order s c m e) (marked_keeps c st order m s)
 
   long : store_need st.n ≤ length s
   long = (sized c st order m s e).fits
@@ -99,25 +99,25 @@ module _ (c : Call) (st : State) (order : List ℕ) (m : st.marks ≡ 0 → ⊥)
       omega arith
 
   fits : cols st ≤ st.n
-  fits = is-fewer c st order m s e
+  fits = is_fewer c st order m s e
 
   passes : NoneHold (tests_of (reduced_call st c) (without_frozen st) first (narrowed_in st s))
   passes = reduced-passes st order s c (none_met c st order s m e)
 
   rests : is_solve c ≡ false → ((load (cols st) (small c st order m s).store).below ≡ (load (cols st) (narrowed_in st s)).below) × ((load (cols st) (small c st order m s).store).ldiag ≡ (load (cols st) (narrowed_in st s)).ldiag)
   rests i =
-      let u = (laws (reduced_call st c)).otherwise (without_frozen st) first (narrowed_in st s) (no-solve (reduced_call st c) (solve_still c st ∙ i)) in
+      let u = (laws (reduced_call st c)).otherwise (without_frozen st) first (narrowed_in st s) (no_solve (reduced_call st c) (solve_still c st ∙ i)) in
       (u.below, u.ldiag)
     where
-      no-solve : (d : Call) → is_solve d ≡ false → settling d (without_frozen st) first (narrowed_in st s) ≡ false
-      no-solve d j = rw j
+      no_solve : (d : Call) → is_solve d ≡ false → settling d (without_frozen st) first (narrowed_in st s) ≡ false
+      no_solve d j = rw j
 
-  below-back : BackTo st (load (cols st) (small c st order m s).store) (load st.n s) (load (cols st) (narrowed_in st s)) fits
+  below_back : BackTo st (load (cols st) (small c st order m s).store) (load st.n s) (load (cols st) (narrowed_in st s)) fits
       (load_shaped (cols st) (small c st order m s).store (small_sized c st order m s e)) (load_shaped st.n s (sized c st order m s e))
-      (narrow_below st.n (cols st) s fits long) (narrow-ldiag st.n (cols st) s fits long) c
-  below-back = back_to st (load (cols st) (small c st order m s).store) (load st.n s) (load (cols st) (narrowed_in st s)) fits
+      (narrow_below st.n (cols st) s fits long) (narrow_ldiag st.n (cols st) s fits long) c
+  below_back = back_to st (load (cols st) (small c st order m s).store) (load st.n s) (load (cols st) (narrowed_in st s)) fits
       (load_shaped (cols st) (small c st order m s).store (small_sized c st order m s e)) (load_shaped st.n s (sized c st order m s e))
-      (narrow_below st.n (cols st) s fits long) (narrow-ldiag st.n (cols st) s fits long) c (λ i. call_empties c i st first (narrowed_in st s) passes) rests
+      (narrow_below st.n (cols st) s fits long) (narrow_ldiag st.n (cols st) s fits long) c (λ i. call_empties c i st first (narrowed_in st s) passes) rests
 
   -- LAW
   pub narrow_back : SameContents (without_frozen st) (narrowed_in st left) (small c st order m s).store
@@ -132,11 +132,11 @@ module _ (c : Call) (st : State) (order : List ℕ) (m : st.marks ≡ 0 → ⊥)
         long_right = (small_sized c st order m s e).fits;
         alike = record {
           upper = narrow-upper n f left fits left_long ∙ ap (λ (x : List (List Float)). take f x) w.upper ∙ sym (narrow-upper n f s fits long) ∙ sym k.upper;
-          qtb = narrow-qtb n f left fits left_long ∙ ap (λ (x : List Float). take f x) w.qtb ∙ sym (narrow-qtb n f s fits long) ∙ sym k.qtb;
+          qtb = narrow_qtb n f left fits left_long ∙ ap (λ (x : List Float). take f x) w.qtb ∙ sym (narrow_qtb n f s fits long) ∙ sym k.qtb;
           norms = narrow-norms n f left fits left_long ∙ ap (λ (x : List Float). take f x) w.norms ∙ sym (narrow-norms n f s fits long) ∙ sym k.norms;
         };
         held_alike = record {
-          below = narrow_below n f left fits left_long ∙ ap (λ (x : Room). cut_from f 0 (take f x.below)) u ∙ ap (λ (x : List (List Float)). cut_from f 0 (take f x)) (leaving-below _ _ (load n s)) ∙ below-back.0;
-          ldiag = narrow-ldiag n f left fits left_long ∙ ap (λ (x : Room). take f x.ldiag) u ∙ ap (λ (x : List Float). take f x) (leaving_ldiag _ _ (load n s)) ∙ below-back.1;
+          below = narrow_below n f left fits left_long ∙ ap (λ (x : Room). cut_from f 0 (take f x.below)) u ∙ ap (λ (x : List (List Float)). cut_from f 0 (take f x)) (leaving-below _ _ (load n s)) ∙ below_back.0;
+          ldiag = narrow_ldiag n f left fits left_long ∙ ap (λ (x : Room). take f x.ldiag) u ∙ ap (λ (x : List Float). take f x) (leaving_ldiag _ _ (load n s)) ∙ below_back.1;
         };
       }

@@ -12,7 +12,7 @@ use Rattle.leaves.specs.Number.{plus_zero}
 use Rattle.leaves.specs.Refusing.{NoneHold}
 use Rattle.leaves.specs.Square.{zeros, cleared}
 use Rattle.leaves.proofs.Refusals.{passed_iff}
-use Rattle.frozen.specs.Frozen.{freeOf}
+use Rattle.frozen.specs.Frozen.{free_of}
 use Rattle.frozen.proofs.Reduces.{cut_from}
 use Rattle.factor.specs.Room.{Room, load, leaving}
 use Rattle.factor.specs.Solve.{padded}
@@ -28,7 +28,7 @@ use Rattle.demands.specs.Refusals.{store_tests, tests_of}
 use Rattle.demands.specs.Marked.{reduced_call}
 use Rattle.demands.proofs.Effects.{Effect, effect, zero_effect, broken, tested_of}
 use Rattle.demands.proofs.Leavings.{tests_numbered, room_sized, passed_is, either, room_after}
-use Rattle.demands.proofs.Laws.{as-zero, zero-tested}
+use Rattle.demands.proofs.Laws.{as_zero, zero-tested}
 use Rattle.demands.proofs.FrozenRooms.{below_left, ldiag_left}
 
 -- ---- +0 cut down
@@ -110,10 +110,10 @@ call_empties (base (scaling md diag x bound)) i st order s h = absurd (true≢fa
 call_empties (base determined) i st order s h = absurd (true≢false (sym i))
 call_empties (base non_singular) i st order s h = absurd (true≢false (sym i))
 call_empties (search diag radius lambda out) i st order s h =
-    let d = freeOf (marks_in st) diag in
+    let d = free_of (marks_in st) diag in
     let o = zeros (cols st) in
     let e = (passed_iff (tests_of (search d radius lambda o) (without_frozen st) order s) refl).1 h in
-    subst (λ (x : List Float). Emptied (load (cols st) s) (load (cols st) x)) (sym (as-zero d radius lambda o (without_frozen st) order s e))
+    subst (λ (x : List Float). Emptied (load (cols st) s) (load (cols st) x)) (sym (as_zero d radius lambda o (without_frozen st) order s e))
     (zero_empties (zeros (cols st)) (without_frozen st) order s (zero-tested d radius lambda o (without_frozen st) order s e))
 
 -- ---- by what kind of call it is: x is the room that the reduced problem's call left, y the one that it found
@@ -122,33 +122,33 @@ module _ (st : State) (x r y : Room) (fits : cols st ≤ st.n) (z : Shaped (cols
   abbrev pub BackTo : Call → Type 0
   BackTo c = (cut_from (cols st) 0 (take (cols st) (below_left c st x r)) ≡ x.below) × (take (cols st) (ldiag_left c st x r) ≡ x.ldiag)
 
-  back-emptied : Emptied y x
+  back_emptied : Emptied y x
       → (cut_from (cols st) 0 (take (cols st) (cleared r.below)) ≡ x.below) × (take (cols st) (zeros (length r.ldiag)) ≡ x.ldiag)
-  back-emptied h = (
+  back_emptied h = (
     ap (λ (l : List (List Float)). cut_from (cols st) 0 l) (cleared_fewer (cols st) r.below) ∙ cleared_cut (cols st) 0 (take (cols st) r.below) ∙ ap cleared (sym yb) ∙ sym h.0,
     zeros_cut (cols st) r.ldiag ∙ ap (λ (l : List Float). zeros (length l)) (sym yl) ∙ sym h.1,
   )
 
-  back-damped : (cut_from (cols st) 0 (take (cols st) (widened st.n x.below)) ≡ x.below) × (take (cols st) (padded st.n x.ldiag) ≡ x.ldiag)
-  back-damped =
+  back_damped : (cut_from (cols st) 0 (take (cols st) (widened st.n x.below)) ≡ x.below) × (take (cols st) (padded st.n x.ldiag) ≡ x.ldiag)
+  back_damped =
       let a = z.below_wide in (
         widened_cut (cols st) 0 st.n (cols st) x.below a fits (λ i h. z.below_tall i (omega arith) ∙ omega arith),
         take_at x.ldiag (zeros (st.n - length x.ldiag)) (cols st) z.ldiag_long,
       )
 
-  back-rests : (x.below ≡ y.below) × (x.ldiag ≡ y.ldiag) → (cut_from (cols st) 0 (take (cols st) r.below) ≡ x.below) × (take (cols st) r.ldiag ≡ x.ldiag)
-  back-rests h = (sym yb ∙ sym h.0, sym yl ∙ sym h.1)
+  back_rests : (x.below ≡ y.below) × (x.ldiag ≡ y.ldiag) → (cut_from (cols st) 0 (take (cols st) r.below) ≡ x.below) × (take (cols st) r.ldiag ≡ x.ldiag)
+  back_rests h = (sym yb ∙ sym h.0, sym yl ∙ sym h.1)
 
   pub back_to : (c : Call) → (is_emptying c ≡ true → Emptied y x) → (is_solve c ≡ false → (x.below ≡ y.below) × (x.ldiag ≡ y.ldiag)) → BackTo c
   unfolding below_left ldiag_left
-  back_to (base (zero_solve out)) p q = back-emptied (p refl)
-  back_to (base (damped_solve diag out)) p q = back-damped
-  back_to (base (held_solve rhs out)) p q = back-rests (q refl)
-  back_to (base (held_product out)) p q = back-rests (q refl)
-  back_to (base (gradient bnorm)) p q = back-rests (q refl)
-  back_to (base (above bnorm limit)) p q = back-rests (q refl)
-  back_to (base (jx_norm v)) p q = back-rests (q refl)
-  back_to (base (scaling md diag v bound)) p q = back-rests (q refl)
-  back_to (base determined) p q = back-rests (q refl)
-  back_to (base non_singular) p q = back-rests (q refl)
-  back_to (search diag radius lambda out) p q = back-emptied (p refl)
+  back_to (base (zero_solve out)) p q = back_emptied (p refl)
+  back_to (base (damped_solve diag out)) p q = back_damped
+  back_to (base (held_solve rhs out)) p q = back_rests (q refl)
+  back_to (base (held_product out)) p q = back_rests (q refl)
+  back_to (base (gradient bnorm)) p q = back_rests (q refl)
+  back_to (base (above bnorm limit)) p q = back_rests (q refl)
+  back_to (base (jx_norm v)) p q = back_rests (q refl)
+  back_to (base (scaling md diag v bound)) p q = back_rests (q refl)
+  back_to (base determined) p q = back_rests (q refl)
+  back_to (base non_singular) p q = back_rests (q refl)
+  back_to (search diag radius lambda out) p q = back_emptied (p refl)

@@ -12,8 +12,8 @@ use lib.Ieee.{Float, nan, binary64, sub, lt, le}
 use Rattle.leaves.specs.Number.{plus_zero, dwarf}
 use Rattle.leaves.specs.Reply.{Reply, answered, refused}
 use Rattle.leaves.specs.Square.{zeros}
-use Rattle.frozen.specs.Frozen.{marks_of, freeOf, merged}
-use Rattle.frozen.proofs.Reduces.{marks-length, free-of-merged, merged-length, merged-frozen}
+use Rattle.frozen.specs.Frozen.{marks_of, free_of, merged}
+use Rattle.frozen.proofs.Reduces.{marks-length, free_of_merged, merged_length, merged_frozen}
 use Rattle.factor.specs.Outcome.{written, Ended}
 use Rattle.factor.specs.Room.{load}
 use Rattle.search.specs.Bounds.{band}
@@ -25,7 +25,7 @@ use Rattle.search.specs.Ending.{ending}
 use Rattle.search.specs.Run.{within, falling, run_of}
 use Rattle.search.specs.Search.{Flagged, problem_of}
 use Rattle.search.specs.Search as plain
-use Rattle.search.proofs.AgainstLmpar.{search-answers_as_lmpar}
+use Rattle.search.proofs.AgainstLmpar.{search_answers_as_lmpar}
 use Rattle.calls.specs.declared.state.State.{State}
 use Rattle.calls.specs.State.{marks_in, cols, without_frozen}
 use Rattle.calls.specs.Outcome.{narrowed_in}
@@ -33,8 +33,8 @@ use Rattle.calls.specs.Search.{marked_search}
 use Rattle.demands.specs.Calls.{reply_number, zero_solve, damped_solve, held_solve, held_product, gradient, above, jx_norm, scaling, determined, non_singular}
 use Rattle.demands.specs.History.{Call, base, search, AnyAnswer, of_base, found, perform, is_solve}
 use Rattle.demands.specs.Marked.{MarkedOutcome, perform_marked, refusal_marked, reduced_call, reduced_outcome, answers, answered_out, read_back}
-use Rattle.demands.proofs.MarkedForms.{marked-cases}
-use Rattle.demands.proofs.FrozenTable.{frozen-answered, frozen-is-reduced}
+use Rattle.demands.proofs.MarkedForms.{marked_cases}
+use Rattle.demands.proofs.FrozenTable.{frozen_answered, frozen_is_reduced}
 use Rattle.demands.proofs.SearchAnswers as told
 
 -- ---- a frozen column has a mark, and is one of the n
@@ -57,22 +57,22 @@ module _ (st : State) (x out : List Float) where
   abbrev step : List Float
   step = merged (marks_in st) (zeros st.n) x
 
-  step-length : length step ≡ st.n
-  step-length = merged-length (marks_in st) (zeros st.n) x ∙ length-replicate st.n plus_zero
+  step_length : length step ≡ st.n
+  step_length = merged_length (marks_in st) (zeros st.n) x ∙ length-replicate st.n plus_zero
 
-  step-zero : (k : ℕ) → get_or (marks_in st) k false ≡ true → get_or (written step out) k nan ≡ plus_zero
-  step-zero k h =
+  step_zero : (k : ℕ) → get_or (marks_in st) k false ≡ true → get_or (written step out) k nan ≡ plus_zero
+  step_zero k h =
       let l = set-within (marks_in st) k h in
       let e = marks-length st.n st.marks in
-      let f = step-length in
-      get_or-append step (drop (length step) out) nan k (omega arith) ∙ merged-frozen (marks_in st) (zeros st.n) x k nan h ∙ get_or-replicate st.n k plus_zero nan (omega arith)
+      let f = step_length in
+      get_or-append step (drop (length step) out) nan k (omega arith) ∙ merged_frozen (marks_in st) (zeros st.n) x k nan h ∙ get_or-replicate st.n k plus_zero nan (omega arith)
 
   -- what was worked out is read at the free columns
-  step-free : length x ≡ cols st → freeOf (marks_in st) (take st.n (written step out)) ≡ x
-  step-free l =
+  step_free : length x ≡ cols st → free_of (marks_in st) (take st.n (written step out)) ≡ x
+  step_free l =
       let e = marks-length st.n st.marks in
       let f = length-replicate st.n plus_zero in
-      ap (λ (y : List Float). freeOf (marks_in st) y) (take_at step (drop (length step) out) st.n step-length) ∙ free-of-merged (marks_in st) (zeros st.n) x (omega arith) l
+      ap (λ (y : List Float). free_of (marks_in st) y) (take_at step (drop (length step) out) st.n step_length) ∙ free_of_merged (marks_in st) (zeros st.n) x (omega arith) l
 
 -- ---- an answer comes from the reduced problem
 refusal-answers : (c : Call) (k : ℕ) (st : State) (s : List Float) → answers (refusal_marked c k st s).answer ≡ false
@@ -95,14 +95,14 @@ chosen false x y e = absurd (true≢false (sym e))
 -- LAW: the output of an answered call
 pub answered_out_lem : (c : Call) (st : State) (order : List ℕ) (s : List Float) → (st.marks ≡ 0 → ⊥) → answers (perform_marked c st order s).answer ≡ true
     → (perform_marked c st order s).out ≡ answered_out c st (reduced_outcome c st order s).out
-answered_out_lem c st order s m = marked-cases st order s c m (λ (o : MarkedOutcome). answers o.answer ≡ true → o.out ≡ answered_out c st (reduced_outcome c st order s).out)
+answered_out_lem c st order s m = marked_cases st order s c m (λ (o : MarkedOutcome). answers o.answer ≡ true → o.out ≡ answered_out c st (reduced_outcome c st order s).out)
     (λ z a. chosen _ _ _ a)
     (λ z a. absurd (true≢false (sym a ∙ refusal-answers c _ st s)))
 
 solved-zero : (c : Call) → is_solve c ≡ true → (st : State) (x : List Float) (k : ℕ) → get_or (marks_in st) k false ≡ true → get_or (answered_out c st x) k nan ≡ plus_zero
 unfolding answered_out
-solved-zero (base (zero_solve out)) i st x k h = step-zero st x out k h
-solved-zero (base (damped_solve diag out)) i st x k h = step-zero st x out k h
+solved-zero (base (zero_solve out)) i st x k h = step_zero st x out k h
+solved-zero (base (damped_solve diag out)) i st x k h = step_zero st x out k h
 solved-zero (base (held_solve rhs out)) i st x k h = absurd (true≢false (sym i))
 solved-zero (base (held_product out)) i st x k h = absurd (true≢false (sym i))
 solved-zero (base (gradient bnorm)) i st x k h = absurd (true≢false (sym i))
@@ -111,7 +111,7 @@ solved-zero (base (jx_norm y)) i st x k h = absurd (true≢false (sym i))
 solved-zero (base (scaling md diag y bound)) i st x k h = absurd (true≢false (sym i))
 solved-zero (base determined) i st x k h = absurd (true≢false (sym i))
 solved-zero (base non_singular) i st x k h = absurd (true≢false (sym i))
-solved-zero (search diag radius lambda out) i st x k h = step-zero st x out k h
+solved-zero (search diag radius lambda out) i st x k h = step_zero st x out k h
 
 -- LAW: a step is +0 at every frozen column
 pub frozen_step_zero : (c : Call) (st : State) (order : List ℕ) (s : List Float) → is_solve c ≡ true → answers (perform_marked c st order s).answer ≡ true
@@ -130,44 +130,44 @@ module _ (st : State) (order : List ℕ) (diag : List Float) (radius lambda : Fl
 
   -- the search without marks on the problem without the frozen columns
   abbrev small : Ended Flagged
-  small = plain.search_call (without_frozen st) (take (cols st) order) (freeOf (marks_in st) diag) radius lambda (narrowed_in st store) (zeros (cols st))
+  small = plain.search_call (without_frozen st) (take (cols st) order) (free_of (marks_in st) diag) radius lambda (narrowed_in st store) (zeros (cols st))
 
   read_back : perform_marked this st order store ≡ read_back this st store (reduced_outcome this st order store)
   unfolding perform_marked
-  read_back = frozen-is-reduced this st order store m ((frozen-answered this st order store m).0 (ap reply_number h)).0
+  read_back = frozen_is_reduced this st order store m ((frozen_answered this st order store m).0 (ap reply_number h)).0
 
-  small-answers : small.reply ≡ answered a
+  small_answers : small.reply ≡ answered a
   unfolding perform_marked reduced_call perform
-  small-answers = sym (ap (λ (o : MarkedOutcome). found_in o.answer) read_back) ∙ h
+  small_answers = sym (ap (λ (o : MarkedOutcome). found_in o.answer) read_back) ∙ h
 
-  out-is : (marked_search st order diag radius lambda store out).out ≡ written (merged (marks_in st) (zeros st.n) small.out) out
+  out_is : (marked_search st order diag radius lambda store out).out ≡ written (merged (marks_in st) (zeros st.n) small.out) out
   unfolding perform_marked reduced_call perform answered_out
-  out-is = answered_out_lem this st order store m (rw h)
+  out_is = answered_out_lem this st order store m (rw h)
 
-  out-free : freeOf (marks_in st) (take st.n (marked_search st order diag radius lambda store out).out) ≡ take (cols st) small.out
-  out-free =
-      let l : length small.out ≡ cols st = told.out-length (without_frozen st) (take (cols st) order) (freeOf (marks_in st) diag) radius lambda (narrowed_in st store) (zeros (cols st)) a small-answers (length-replicate (cols st) plus_zero) in
-      ap (λ (y : List Float). freeOf (marks_in st) (take st.n y)) out-is ∙ step-free st small.out out l ∙ sym (take_all (cols st) small.out (omega arith))
+  out_free : free_of (marks_in st) (take st.n (marked_search st order diag radius lambda store out).out) ≡ take (cols st) small.out
+  out_free =
+      let l : length small.out ≡ cols st = told.out_length (without_frozen st) (take (cols st) order) (free_of (marks_in st) diag) radius lambda (narrowed_in st store) (zeros (cols st)) a small_answers (length-replicate (cols st) plus_zero) in
+      ap (λ (y : List Float). free_of (marks_in st) (take st.n y)) out_is ∙ step_free st small.out out l ∙ sym (take_all (cols st) small.out (omega arith))
 
   -- LAW
-  pub frozen-search-lmpar : (unset : Float) → cols st ≤ st.m
-      → lmpar (minpack_enorm unset) dwarf (lent_of (without_frozen st) (take (cols st) order) (freeOf (marks_in st) diag) radius (narrowed_in st store)) lambda
-      ≡ record { x = freeOf (marks_in st) (take st.n (marked_search st order diag radius lambda store out).out); par = a.0.lambda; qrsolvs = a.0.trials }
-  frozen-search-lmpar unset l =
-      rw out-free (search-answers_as_lmpar unset (without_frozen st) (take (cols st) order) (freeOf (marks_in st) diag) radius lambda (narrowed_in st store) (zeros (cols st)) a small-answers l)
+  pub frozen_search-lmpar : (unset : Float) → cols st ≤ st.m
+      → lmpar (minpack_enorm unset) dwarf (lent_of (without_frozen st) (take (cols st) order) (free_of (marks_in st) diag) radius (narrowed_in st store)) lambda
+      ≡ record { x = free_of (marks_in st) (take st.n (marked_search st order diag radius lambda store out).out); par = a.0.lambda; qrsolvs = a.0.trials }
+  frozen_search-lmpar unset l =
+      rw out_free (search_answers_as_lmpar unset (without_frozen st) (take (cols st) order) (free_of (marks_in st) diag) radius lambda (narrowed_in st store) (zeros (cols st)) a small_answers l)
 
   -- LAW: the rule on lambda, by the reduced problem's undamped step
   abbrev pub asked : Problem
-  asked = problem_of (without_frozen st) (take (cols st) order) (freeOf (marks_in st) diag) radius (load (cols st) (narrowed_in st store))
+  asked = problem_of (without_frozen st) (take (cols st) order) (free_of (marks_in st) diag) radius (load (cols st) (narrowed_in st store))
 
   abbrev pub overshoot : Float
   overshoot = sub binary64 (scaled_norm asked (undamped_step asked)) radius
 
-  pub frozen-lambda : (a.0.lambda ≡ plus_zero) ↔ (le overshoot (band radius) ≡ true)
-  frozen-lambda = told.lambda-rule (without_frozen st) (take (cols st) order) (freeOf (marks_in st) diag) radius lambda (narrowed_in st store) (zeros (cols st)) a small-answers
+  pub frozen_lambda : (a.0.lambda ≡ plus_zero) ↔ (le overshoot (band radius) ≡ true)
+  frozen_lambda = told.lambda_rule (without_frozen st) (take (cols st) order) (free_of (marks_in st) diag) radius lambda (narrowed_in st store) (zeros (cols st)) a small_answers
 
   -- LAW: and that on trials
-  pub frozen-trials : le overshoot (band radius) ≡ false
+  pub frozen_trials : le overshoot (band radius) ≡ false
       → (lt plus_zero a.0.lambda ≡ true)
       × ((1 ≤ a.0.trials) × ((a.0.trials ≤ 10) × (a.0.trials < 10 → (ending (run_of asked lambda) ≡ inl within) ⊎ (ending (run_of asked lambda) ≡ inl falling))))
-  frozen-trials = told.trial-rule (without_frozen st) (take (cols st) order) (freeOf (marks_in st) diag) radius lambda (narrowed_in st store) (zeros (cols st)) a small-answers
+  frozen_trials = told.trial_rule (without_frozen st) (take (cols st) order) (free_of (marks_in st) diag) radius lambda (narrowed_in st store) (zeros (cols st)) a small_answers

@@ -36,7 +36,7 @@ use Rattle.demands.proofs.Tabled.{refused_number}
 use Rattle.demands.proofs.Tables as table
 use Rattle.demands.proofs.TestNumbers.{every, first_of_lem}
 use Rattle.demands.proofs.Laws.{laws}
-use Rattle.demands.proofs.MarkedForms.{no-marks, marked_refused, marked-worked, marked-cases}
+use Rattle.demands.proofs.MarkedForms.{no_marks, marked_refused, marked-worked, marked_cases}
 use Rattle.demands.proofs.ReducedTests.{further_by, tests_split, marked_numbered, reduced-passes}
 
 -- ---- a call without marks that passes its tests is answered or refused 8
@@ -99,36 +99,36 @@ module _ (c : Call) (st : State) (order : List ℕ) (s : List Float) (marked-som
   abbrev small : Outcome
   small = reduced_outcome c st order s
 
-  pub met-none : NoneHold tests → first_of tests ≡ 0
-  met-none h = (passed_iff tests (marked_numbered c st order s)).1 h
+  pub met_none : NoneHold tests → first_of tests ≡ 0
+  met_none h = (passed_iff tests (marked_numbered c st order s)).1 h
 
   pub none_met : first_of tests ≡ 0 → NoneHold tests
   none_met e = (passed_iff tests (marked_numbered c st order s)).0 e
 
-  passed-number : first_of tests ≡ 0 → given ≡ number_of small.answer
-  passed-number e = ap (λ (o : MarkedOutcome). number_of o.answer) (marked-worked st order s c marked-some e)
+  passed_number : first_of tests ≡ 0 → given ≡ number_of small.answer
+  passed_number e = ap (λ (o : MarkedOutcome). number_of o.answer) (marked-worked st order s c marked-some e)
 
-  stopped-number : (first_of tests ≡ 0 → ⊥) → given ≡ first_of tests
-  stopped-number h = ap (λ (o : MarkedOutcome). number_of o.answer) (marked_refused st order s c marked-some h) ∙ refusal_number c (first_of tests) (whole st) s
+  stopped_number : (first_of tests ≡ 0 → ⊥) → given ≡ first_of tests
+  stopped_number h = ap (λ (o : MarkedOutcome). number_of o.answer) (marked_refused st order s c marked-some h) ∙ refusal_number c (first_of tests) (whole st) s
 
-  small-number : first_of tests ≡ 0 → (number_of small.answer ≡ 0) ⊎ (number_of small.answer ≡ 8)
-  small-number e = worked_number (reduced_call st c) (without_frozen st) (take (cols st) order) (narrowed_in st s) (reduced-passes st order s c (none_met e))
+  small_number : first_of tests ≡ 0 → (number_of small.answer ≡ 0) ⊎ (number_of small.answer ≡ 8)
+  small_number e = worked_number (reduced_call st c) (without_frozen st) (take (cols st) order) (narrowed_in st s) (reduced-passes st order s c (none_met e))
 
-  pub given-number : first_of tests ≡ 0 → (given ≡ 0) ⊎ (given ≡ 8)
-  given-number e = subst (λ (k : ℕ). (k ≡ 0) ⊎ (k ≡ 8)) (sym (passed-number e)) (small-number e)
+  pub given_number : first_of tests ≡ 0 → (given ≡ 0) ⊎ (given ≡ 8)
+  given_number e = subst (λ (k : ℕ). (k ≡ 0) ⊎ (k ≡ 8)) (sym (passed_number e)) (small_number e)
 
   by_number : (P : ℕ → Type 0) → (first_of tests ≡ 0 → P (number_of small.answer)) → ((first_of tests ≡ 0 → ⊥) → P (first_of tests)) → P given
   by_number P p q = by (eqb (first_of tests) 0) refl
     where
       by : (b : Bool) → eqb (first_of tests) 0 ≡ b → P given
-      by true e = let z = eqb-true (first_of tests) 0 e in subst P (sym (passed-number z)) (p z)
-      by false e = let z = eqb-false (first_of tests) 0 e in subst P (sym (stopped-number z)) (q z)
+      by true e = let z = eqb-true (first_of tests) 0 e in subst P (sym (passed_number z)) (p z)
+      by false e = let z = eqb-false (first_of tests) 0 e in subst P (sym (stopped_number z)) (q z)
 
   -- LAW: every number but 8, in the order of the tests; 9 where no column is free
-  pub frozen-refused : (k : ℕ) → 0 < k → (k ≡ 8 → ⊥) → (given ≡ k) ↔ RefusedBy tests k
-  frozen-refused k p q = (
-    by_number (λ (g : ℕ). g ≡ k → RefusedBy tests k) (λ z e. absurd (neither (small-number z) e)) (λ h e. (refused_iff tests k p).0 e),
-    λ r. let e = (refused_iff tests k p).1 r in stopped-number (λ z. let j = sym e ∙ z in omega arith) ∙ e,
+  pub frozen_refused : (k : ℕ) → 0 < k → (k ≡ 8 → ⊥) → (given ≡ k) ↔ RefusedBy tests k
+  frozen_refused k p q = (
+    by_number (λ (g : ℕ). g ≡ k → RefusedBy tests k) (λ z e. absurd (neither (small_number z) e)) (λ h e. (refused_iff tests k p).0 e),
+    λ r. let e = (refused_iff tests k p).1 r in stopped_number (λ z. let j = sym e ∙ z in omega arith) ∙ e,
   )
     where
       neither : (number_of small.answer ≡ 0) ⊎ (number_of small.answer ≡ 8) → number_of small.answer ≡ k → ⊥
@@ -136,46 +136,46 @@ module _ (c : Call) (st : State) (order : List ℕ) (s : List Float) (marked-som
       neither (inr z) e = q (sym e ∙ z)
 
   -- LAW: and then everything is as it came
-  pub frozen-unchanged : (k : ℕ) → 0 < k → RefusedBy tests k → perform_marked c st order s ≡ refusal_marked c k st s
-  frozen-unchanged k p r =
+  pub frozen_unchanged : (k : ℕ) → 0 < k → RefusedBy tests k → perform_marked c st order s ≡ refusal_marked c k st s
+  frozen_unchanged k p r =
       let e = (refused_iff tests k p).1 r in
       marked_refused st order s c marked-some (λ z. let j = sym e ∙ z in omega arith) ∙ ap (λ (i : ℕ). refusal_marked c i st s) e
 
   -- LAW: 8, by the reduced problem
-  pub frozen-eight : (given ≡ 8) ↔ (NoneHold tests × Breaks (reduced_call st c) (without_frozen st) (take (cols st) order) (narrowed_in st s))
-  frozen-eight =
+  pub frozen_eight : (given ≡ 8) ↔ (NoneHold tests × Breaks (reduced_call st c) (without_frozen st) (take (cols st) order) (narrowed_in st s))
+  frozen_eight =
       let t = table.refused_eight (reduced_call st c) (without_frozen st) (take (cols st) order) (narrowed_in st s) in (
         by_number (λ (g : ℕ). g ≡ 8 → NoneHold tests × Breaks (reduced_call st c) (without_frozen st) (take (cols st) order) (narrowed_in st s)) (λ z e. (none_met z, (t.0 e).1))
             (λ h e. absurd (tested_other c st order s e)),
-        λ w. passed-number (met-none w.0) ∙ t.1 (reduced-passes st order s c w.0, w.1),
+        λ w. passed_number (met_none w.0) ∙ t.1 (reduced-passes st order s c w.0, w.1),
       )
 
   -- LAW: answered, by the reduced problem
-  pub frozen-answered : (given ≡ 0) ↔ (NoneHold tests × Stands (reduced_call st c) (without_frozen st) (take (cols st) order) (narrowed_in st s))
-  frozen-answered =
+  pub frozen_answered : (given ≡ 0) ↔ (NoneHold tests × Stands (reduced_call st c) (without_frozen st) (take (cols st) order) (narrowed_in st s))
+  frozen_answered =
       let t = table.answered_otherwise (reduced_call st c) (without_frozen st) (take (cols st) order) (narrowed_in st s) in (
         by_number (λ (g : ℕ). g ≡ 0 → NoneHold tests × Stands (reduced_call st c) (without_frozen st) (take (cols st) order) (narrowed_in st s)) (λ z e. (none_met z, (t.0 e).1))
             (λ h e. absurd (h e)),
-        λ w. passed-number (met-none w.0) ∙ t.1 (reduced-passes st order s c w.0, w.1),
+        λ w. passed_number (met_none w.0) ∙ t.1 (reduced-passes st order s c w.0, w.1),
       )
 
   -- ---- what a call leaves that passes its tests
 
   -- LAW: the outcome of the call on the problem without the frozen columns, read back
-  pub frozen-is-reduced : NoneHold tests → perform_marked c st order s ≡ read_back c st s small
-  frozen-is-reduced h = marked-worked st order s c marked-some (met-none h)
+  pub frozen_is_reduced : NoneHold tests → perform_marked c st order s ≡ read_back c st s small
+  frozen_is_reduced h = marked-worked st order s c marked-some (met_none h)
 
   -- LAW: the same by that call's outcome in any other slices that hold the reduced problem
-  pub frozen-any-slices : NoneHold tests → cols st ≤ length order → (o : List ℕ) (t : List Float) → cols st ≤ length o → take (cols st) o ≡ take (cols st) order
+  pub frozen_any_slices : NoneHold tests → cols st ≤ length order → (o : List ℕ) (t : List Float) → cols st ≤ length o → take (cols st) o ≡ take (cols st) order
       → SameContents (without_frozen st) (narrowed_in st s) t → ReadAs c st (perform (reduced_call st c) (without_frozen st) o t) (perform_marked c st order s)
-  frozen-any-slices h l o t p e a =
+  frozen_any_slices h l o t p e a =
       let d = reduced_call st c in
       let f = take (cols st) order in
       let g = (laws d).reads (without_frozen st) f (narrowed_in st s) t a.long_left a.long_right a.alike (λ x. a.held_alike) in
       let q = length-take-le (cols st) order l in
       let m = (laws d).orders (without_frozen st) f o t (omega arith) p (take-take (cols st) (cols st) order (le_refl (cols st)) ∙ sym e) in
       subst (λ (x : Outcome). ReadAs c st x (perform_marked c st order s)) m
-      (rw (frozen-is-reduced h) (record {
+      (rw (frozen_is_reduced h) (record {
         answer = g.answer;
         state = ap (λ (x : Plain). marked_held st x.held) g.state;
         out = ap (λ (y : AnyAnswer). out_back c st y small.out) g.answer ∙ ap (λ (y : List Float). out_back c st (perform d (without_frozen st) f t).answer y) g.out;
@@ -191,6 +191,6 @@ marks-kept c st order s = by (eqb st.marks 0) refl
 
     by : (b : Bool) → eqb st.marks 0 ≡ b → (perform_marked c st order s).state ≡ marked_held st (perform_marked c st order s).state.held
     by true e =
-        subst (λ (o : MarkedOutcome). o.state ≡ marked_held st o.state.held) (sym (no-marks st order s c (eqb-true st.marks 0 e)))
+        subst (λ (o : MarkedOutcome). o.state ≡ marked_held st o.state.held) (sym (no_marks st order s c (eqb-true st.marks 0 e)))
         (ap (λ (x : Plain). marked st.marks x) ((laws c).sizes (whole st) order s))
-    by false e = marked-cases st order s c (eqb-false st.marks 0 e) (λ (o : MarkedOutcome). o.state ≡ marked_held st o.state.held) (λ z. refl) (λ z. stays c (first_of (tests_marked c st order s)))
+    by false e = marked_cases st order s c (eqb-false st.marks 0 e) (λ (o : MarkedOutcome). o.state ≡ marked_held st o.state.held) (λ z. refl) (λ z. stays c (first_of (tests_marked c st order s)))

@@ -75,12 +75,12 @@ square marks = marked_factoring 2 2 marks (w 1 ∷ plus_zero ∷ plus_zero ∷ w
 abbrev asks : ℕ → MarkedOutcome
 asks marks = perform_marked (base (above (w 5) (round binary64 false 3 4))) (square marks).state (square marks).order (square marks).store
 
-pub one-asked :
+pub one_asked :
     ((asks 32768).answer ≡ of_base (truth (answered true)))
     × ((asks 16384).answer ≡ of_base (truth (answered false)))
     × ((asks 0).answer ≡ of_base (truth (answered true)))
 unfolding opened_marked
-one-asked = (refl, refl, refl)
+one_asked = (refl, refl, refl)
 
 -- both frozen: 7 for a limit below zero, then 9
 abbrev asks_below : Float → MarkedOutcome

@@ -27,15 +27,15 @@ alike_right a k = record { upper = a.upper ∙ sym k.upper; qtb = a.qtb ∙ sym 
 -- ---- two order lists with the same first n
 module _ {C A : Type 0} (f : C → State → List ℕ → List Float → OutcomeOf A) (held : C → Bool) (settles-by : C → State → List ℕ → List Float → Bool)
     (every : (c : C) → LawsOf (f c) (held c) (settles-by c)) (o p : List ℕ) where
-  pub run-orders : (cs : List C) (st : State) (s : List Float) → st.n ≤ length o → st.n ≤ length p → take st.n o ≡ take st.n p
+  pub run_orders : (cs : List C) (st : State) (s : List Float) → st.n ≤ length o → st.n ≤ length p → take st.n o ≡ take st.n p
       → run f o cs st s ≡ run f p cs st s
   unfolding run
-  run-orders [] st s lo lp e = refl
-  run-orders (c ∷ cs) st s lo lp e =
+  run_orders [] st s lo lp e = refl
+  run_orders (c ∷ cs) st s lo lp e =
       let x = f c st p s in
       let n : st.n ≡ x.state.n = sym (ap (λ (z : State). z.n) ((every c).sizes st p s)) in
       ap (λ (z : OutcomeOf A). run f o cs z.state z.store) ((every c).orders st o p s lo lp e)
-      ∙ run-orders cs x.state x.store (subst (λ (k : ℕ). k ≤ length o) n lo) (subst (λ (k : ℕ). k ≤ length p) n lp)
+      ∙ run_orders cs x.state x.store (subst (λ (k : ℕ). k ≤ length o) n lo) (subst (λ (k : ℕ). k ≤ length p) n lp)
       (subst (λ (k : ℕ). take k o ≡ take k p) n e)
 
 module _ {C A : Type 0} (f : C → State → List ℕ → List Float → OutcomeOf A) (held : C → Bool) (settles-by : C → State → List ℕ → List Float → Bool)
@@ -45,19 +45,19 @@ module _ {C A : Type 0} (f : C → State → List ℕ → List Float → Outcome
   run-size [] st s = refl
   run-size (c ∷ cs) st s = run-size cs (f c st order s).state (f c st order s).store ∙ ap (λ (x : State). x.n) ((every c).sizes st order s)
 
-  pub run-rows : (cs : List C) (st : State) (s : List Float) → (run f order cs st s).0.m ≡ st.m
+  pub run_rows : (cs : List C) (st : State) (s : List Float) → (run f order cs st s).0.m ≡ st.m
   unfolding run
-  run-rows [] st s = refl
-  run-rows (c ∷ cs) st s = run-rows cs (f c st order s).state (f c st order s).store ∙ ap (λ (x : State). x.m) ((every c).sizes st order s)
+  run_rows [] st s = refl
+  run_rows (c ∷ cs) st s = run_rows cs (f c st order s).state (f c st order s).store ∙ ap (λ (x : State). x.m) ((every c).sizes st order s)
 
   -- ---- keeps, of a run
-  pub run-keeps : (cs : List C) (st : State) (s : List Float) → Kept (load st.n s) (load st.n (run f order cs st s).1)
+  pub run_keeps : (cs : List C) (st : State) (s : List Float) → Kept (load st.n s) (load st.n (run f order cs st s).1)
   unfolding run
-  run-keeps [] st s = record { upper = refl; qtb = refl; norms = refl; rest = refl }
-  run-keeps (c ∷ cs) st s =
+  run_keeps [] st s = record { upper = refl; qtb = refl; norms = refl; rest = refl }
+  run_keeps (c ∷ cs) st s =
       let o = f c st order s in
       let e : o.state.n ≡ st.n = ap (λ (x : State). x.n) ((every c).sizes st order s) in
-      kept_after ((every c).keeps st order s) (subst (λ (k : ℕ). Kept (load k o.store) (load k (run f order cs o.state o.store).1)) e (run-keeps cs o.state o.store))
+      kept_after ((every c).keeps st order s) (subst (λ (k : ℕ). Kept (load k o.store) (load k (run f order cs o.state o.store).1)) e (run_keeps cs o.state o.store))
 
   -- ---- two workings from rooms with the same R, qt_b and norms: after a run, and after its latest call that settled
   module _ (st₀ : State) (t : List Float) (filled : is_empty st₀.held ≡ false) (long : Long st₀ t) where
@@ -71,9 +71,9 @@ module _ {C A : Type 0} (f : C → State → List ℕ → List Float → Outcome
       held_alike : HeldAlike (load st₀.n s) (load st₀.n y.1)
 
     -- a call that does not settle
-    beside-rests : (c : C) (st : State) (s : List Float) (y : State × List Float) → Beside st s y → settles-by c st order s ≡ false
+    beside_rests : (c : C) (st : State) (s : List Float) (y : State × List Float) → Beside st s y → settles-by c st order s ≡ false
         → Beside (f c st order s).state (f c st order s).store y
-    beside-rests c st s y b h =
+    beside_rests c st s y b h =
         let o = f c st order s in
         let n : st.n ≡ st₀.n = ap (λ (x : State). x.n) b.of in
         let u = (every c).otherwise st order s h in
@@ -93,9 +93,9 @@ module _ {C A : Type 0} (f : C → State → List ℕ → List Float → Outcome
         }
 
     -- a call that settles, in a state of the same problem: what was before it is forgotten
-    fresh-settles : (c : C) (s : List Float) → Long st₀ s → Alike (load st₀.n s) (load st₀.n t) → settles-by c st₀ order s ≡ true
+    fresh_settles : (c : C) (s : List Float) → Long st₀ s → Alike (load st₀.n s) (load st₀.n t) → settles-by c st₀ order s ≡ true
         → Beside (f c st₀ order s).state (f c st₀ order s).store ((f c st₀ order t).state, (f c st₀ order t).store)
-    fresh-settles c s l a h =
+    fresh_settles c s l a h =
         let w = (every c).settles st₀ order s t l long a h in
         let k = (every c).keeps st₀ order s in
         let j = (every c).keeps st₀ order t in
@@ -111,24 +111,24 @@ module _ {C A : Type 0} (f : C → State → List ℕ → List Float → Outcome
           held_alike = record { below = w.below; ldiag = w.ldiag };
         }
 
-    beside-settles : (c : C) (st : State) (s : List Float) (y : State × List Float) → Beside st s y → settles-by c st order s ≡ true
+    beside_settles : (c : C) (st : State) (s : List Float) (y : State × List Float) → Beside st s y → settles-by c st order s ≡ true
         → Beside (f c st order s).state (f c st order s).store ((f c st₀ order t).state, (f c st₀ order t).store)
-    beside-settles c st s y b h =
+    beside_settles c st s y b h =
         let e : with_held st st₀.held ≡ st₀ = ap (λ (x : State). with_held x st₀.held) b.of in
         let g = (every c).fresh st st₀.held order s filled h in
         let p : settles-by c st₀ order s ≡ true = rw e at g.0 in
         let q : f c st₀ order s ≡ f c st order s = rw e at g.1 in
-        rw (← q) (fresh-settles c s b.long_left b.origin p)
+        rw (← q) (fresh_settles c s b.long_left b.origin p)
 
-    beside-run : (cs d : List C) (st : State) (s : List Float) → Beside st s (run f order d st₀ t)
+    beside_run : (cs d : List C) (st : State) (s : List Float) → Beside st s (run f order d st₀ t)
         → Beside (run f order cs st s).0 (run f order cs st s).1 (run f order (latest f order settles-by d cs st s) st₀ t)
     unfolding run latest
-    beside-run [] d st s b = b
-    beside-run (c ∷ cs) d st s b = beside-run cs (cond (settles-by c st order s) (c ∷ []) d) (f c st order s).state (f c st order s).store (by (settles-by c st order s) refl)
+    beside_run [] d st s b = b
+    beside_run (c ∷ cs) d st s b = beside_run cs (cond (settles-by c st order s) (c ∷ []) d) (f c st order s).state (f c st order s).store (by (settles-by c st order s) refl)
       where
         by : (x : Bool) → settles-by c st order s ≡ x → Beside (f c st order s).state (f c st order s).store (run f order (cond x (c ∷ []) d) st₀ t)
-        by true h = beside-settles c st s (run f order d st₀ t) b h
-        by false h = beside-rests c st s (run f order d st₀ t) b h
+        by true h = beside_settles c st s (run f order d st₀ t) b h
+        by false h = beside_rests c st s (run f order d st₀ t) b h
 
     -- LAW: the next call tells the same after any run as after the run's latest call that settled, in any room that is as factored
     -- from the same Jacobian and residuals.
@@ -140,7 +140,7 @@ module _ {C A : Type 0} (f : C → State → List ℕ → List Float → Outcome
     history s l a g cs c =
         let x = run f order cs st₀ s in
         let y = run f order (latest f order settles-by [] cs st₀ s) st₀ t in
-        let b = beside-run cs [] st₀ s (record { of = refl; state = refl; long_left = l; long_right = long; origin = a; alike = a; held_alike = g }) in
+        let b = beside_run cs [] st₀ s (record { of = refl; state = refl; long_left = l; long_right = long; origin = a; alike = a; held_alike = g }) in
         let n : st₀.n ≡ x.0.n = sym (ap (λ (z : State). z.n) b.of) in
         subst (λ (z : State). ToldAlike (f c x.0 order x.1) (f c z order y.1)) b.state
         ((every c).reads x.0 order x.1 y.1

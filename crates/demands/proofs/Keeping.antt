@@ -17,9 +17,9 @@ use Rattle.factor.specs.declared.state.Held.{Held}
 use Rattle.factor.specs.declared.state.State.{State}
 use Rattle.factor.proofs.Layouts.{load_shaped}
 use Rattle.demands.proofs.Effects.{Effect, effect, effected, tested_of}
-use Rattle.demands.proofs.Leavings.{room_tested, room_sized, tests_long, passed_is, refused-is, performed, effect-shaped, room_after}
-use Rattle.demands.proofs.Surplus.{order-surplus}
-use Rattle.demands.proofs.Reading.{effect-reads, effect-settles, effect_rests}
+use Rattle.demands.proofs.Leavings.{room_tested, room_sized, tests_long, passed_is, refused_is, performed, effect_shaped, room_after}
+use Rattle.demands.proofs.Surplus.{order_surplus}
+use Rattle.demands.proofs.Reading.{effect_reads, effect_settles, effect_rests}
 use Rattle.factor.specs.inner.Rooms.{Shaped}
 use Rattle.demands.specs.inner.Helds.{is_store_held}
 use Rattle.demands.specs.Refusals.{shortest_of, further_of, store_refusal, refused_as}
@@ -101,7 +101,7 @@ call-lasts c st order s = performed c st order s (λ (o : StoreOutcome). length 
     let a = room_after c st order s z in
     same_length st.n s t z.fits
     (four_parts st.n t (room_tested c st order s e).sizes.cols_some
-    (work-left st.n f.below f.ldiag r (load st.n t) a (effect-shaped st order r (load_shaped st.n s z) c)))
+    (work-left st.n f.below f.ldiag r (load st.n t) a (effect_shaped st order r (load_shaped st.n s z) c)))
     (ap (λ (x : Room). x.rest) a ∙ (leaving-kept f.below f.ldiag r).rest))
     (λ h. refl)
 
@@ -113,14 +113,14 @@ module _ (c : StoreCall) (st : State) (order : List ℕ) (s t : List Float) (p :
   tested-same : tested_of c st order s ≡ tested_of c st order t
   tested-same = ap first_of (tests_long c st order (length s) (length t) p q)
 
-  call-reads : Alike (load st.n s) (load st.n t) → (is_store_held c ≡ true → HeldAlike (load st.n s) (load st.n t))
+  call_reads : Alike (load st.n s) (load st.n t) → (is_store_held c ≡ true → HeldAlike (load st.n s) (load st.n t))
       → ToldAlike (perform_store c st order s) (perform_store c st order t)
-  call-reads a g = performed c st order s (λ (o : StoreOutcome). ToldAlike o (perform_store c st order t))
+  call_reads a g = performed c st order s (λ (o : StoreOutcome). ToldAlike o (perform_store c st order t))
       (λ e.
-      let same = effect-reads st order (load st.n s) (load st.n t) a c g in
+      let same = effect_reads st order (load st.n s) (load st.n t) a c g in
       subst (λ (o : StoreOutcome). ToldAlike (effected st s (effect c st order (load st.n s))) o) (sym (passed_is c st order t (sym tested-same ∙ e)))
       (record { answer = same.answer; state = ap (λ (h : Held). with_held st h) same.held; out = same.out }))
-      (λ h. subst (λ (o : StoreOutcome). ToldAlike (store_refusal c (tested_of c st order s) st s) o) (sym (refused-is c st order t (λ e. h (tested-same ∙ e))))
+      (λ h. subst (λ (o : StoreOutcome). ToldAlike (store_refusal c (tested_of c st order s) st s) o) (sym (refused_is c st order t (λ e. h (tested-same ∙ e))))
       (record { answer = ap (λ (k : ℕ). refused_as c k) tested-same; state = refl; out = refl }))
 
   -- ---- settles
@@ -133,9 +133,9 @@ module _ (c : StoreCall) (st : State) (order : List ℕ) (s t : List Float) (p :
     work = ap (λ (y : Room). y.work) e ∙ ap zeros hw ∙ sym (ap (λ (y : Room). y.work) e');
   }
 
-  call-settles : Alike (load st.n s) (load st.n t) → settling c st order s ≡ true
+  call_settles : Alike (load st.n s) (load st.n t) → settling c st order s ≡ true
       → Settled (load st.n (perform_store c st order s).store) (load st.n (perform_store c st order t).store)
-  call-settles a h =
+  call_settles a h =
       let both = (and-eq-true_iff (is_store_solve c) (eqb (tested_of c st order s) 0)).0 h in
       let e = eqb-true (tested_of c st order s) 0 both.1 in
       let f = sym tested-same ∙ e in
@@ -143,7 +143,7 @@ module _ (c : StoreCall) (st : State) (order : List ℕ) (s t : List Float) (p :
       let y = room_sized c st order t f in
       let zs = load_shaped st.n s z in
       let ys = load_shaped st.n t y in
-      let same = effect-settles st order (load st.n s) (load st.n t) a zs ys c both.0 in
+      let same = effect_settles st order (load st.n s) (load st.n t) a zs ys c both.0 in
       left-same _ _ _ _ (load st.n s) (load st.n t) _ _ same.below same.ldiag (zs.work_long ∙ sym ys.work_long)
       (ap (λ (o : StoreOutcome). load st.n o.store) (passed_is c st order s e) ∙ room_after c st order s z)
       (ap (λ (o : StoreOutcome). load st.n o.store) (passed_is c st order t f) ∙ room_after c st order t y)
@@ -185,58 +185,58 @@ solve_apart determined h = absurd (true≢false (sym h))
 solve_apart non_singular h = absurd (true≢false (sym h))
 
 module _ (st : State) (h : Held) (order : List ℕ) where
-  shortest-fresh : (c : StoreCall) → is_store_solve c ≡ true → shortest_of c (with_held st h) order ≡ shortest_of c st order
+  shortest_fresh : (c : StoreCall) → is_store_solve c ≡ true → shortest_of c (with_held st h) order ≡ shortest_of c st order
   unfolding shortest_of
-  shortest-fresh (zero_solve out) a = refl
-  shortest-fresh (damped_solve diag out) a = refl
-  shortest-fresh (held_solve rhs out) a = absurd (true≢false (sym a))
-  shortest-fresh (held_product out) a = absurd (true≢false (sym a))
-  shortest-fresh (gradient bnorm) a = absurd (true≢false (sym a))
-  shortest-fresh (above bnorm limit) a = absurd (true≢false (sym a))
-  shortest-fresh (jx_norm x) a = absurd (true≢false (sym a))
-  shortest-fresh (scaling md diag x bound) a = absurd (true≢false (sym a))
-  shortest-fresh determined a = absurd (true≢false (sym a))
-  shortest-fresh non_singular a = absurd (true≢false (sym a))
+  shortest_fresh (zero_solve out) a = refl
+  shortest_fresh (damped_solve diag out) a = refl
+  shortest_fresh (held_solve rhs out) a = absurd (true≢false (sym a))
+  shortest_fresh (held_product out) a = absurd (true≢false (sym a))
+  shortest_fresh (gradient bnorm) a = absurd (true≢false (sym a))
+  shortest_fresh (above bnorm limit) a = absurd (true≢false (sym a))
+  shortest_fresh (jx_norm x) a = absurd (true≢false (sym a))
+  shortest_fresh (scaling md diag x bound) a = absurd (true≢false (sym a))
+  shortest_fresh determined a = absurd (true≢false (sym a))
+  shortest_fresh non_singular a = absurd (true≢false (sym a))
 
-  further-fresh : (c : StoreCall) → is_store_solve c ≡ true → further_of c (with_held st h) order ≡ further_of c st order
+  further_fresh : (c : StoreCall) → is_store_solve c ≡ true → further_of c (with_held st h) order ≡ further_of c st order
   unfolding further_of
-  further-fresh (zero_solve out) a = refl
-  further-fresh (damped_solve diag out) a = refl
-  further-fresh (held_solve rhs out) a = absurd (true≢false (sym a))
-  further-fresh (held_product out) a = absurd (true≢false (sym a))
-  further-fresh (gradient bnorm) a = absurd (true≢false (sym a))
-  further-fresh (above bnorm limit) a = absurd (true≢false (sym a))
-  further-fresh (jx_norm x) a = absurd (true≢false (sym a))
-  further-fresh (scaling md diag x bound) a = absurd (true≢false (sym a))
-  further-fresh determined a = absurd (true≢false (sym a))
-  further-fresh non_singular a = absurd (true≢false (sym a))
+  further_fresh (zero_solve out) a = refl
+  further_fresh (damped_solve diag out) a = refl
+  further_fresh (held_solve rhs out) a = absurd (true≢false (sym a))
+  further_fresh (held_product out) a = absurd (true≢false (sym a))
+  further_fresh (gradient bnorm) a = absurd (true≢false (sym a))
+  further_fresh (above bnorm limit) a = absurd (true≢false (sym a))
+  further_fresh (jx_norm x) a = absurd (true≢false (sym a))
+  further_fresh (scaling md diag x bound) a = absurd (true≢false (sym a))
+  further_fresh determined a = absurd (true≢false (sym a))
+  further_fresh non_singular a = absurd (true≢false (sym a))
 
-  effect-fresh : (c : StoreCall) → is_store_solve c ≡ true → (r : Room) → effect c (with_held st h) order r ≡ effect c st order r
+  effect_fresh : (c : StoreCall) → is_store_solve c ≡ true → (r : Room) → effect c (with_held st h) order r ≡ effect c st order r
   unfolding effect
-  effect-fresh (zero_solve out) a r = refl
-  effect-fresh (damped_solve diag out) a r = refl
-  effect-fresh (held_solve rhs out) a r = absurd (true≢false (sym a))
-  effect-fresh (held_product out) a r = absurd (true≢false (sym a))
-  effect-fresh (gradient bnorm) a r = absurd (true≢false (sym a))
-  effect-fresh (above bnorm limit) a r = absurd (true≢false (sym a))
-  effect-fresh (jx_norm x) a r = absurd (true≢false (sym a))
-  effect-fresh (scaling md diag x bound) a r = absurd (true≢false (sym a))
-  effect-fresh determined a r = absurd (true≢false (sym a))
-  effect-fresh non_singular a r = absurd (true≢false (sym a))
+  effect_fresh (zero_solve out) a r = refl
+  effect_fresh (damped_solve diag out) a r = refl
+  effect_fresh (held_solve rhs out) a r = absurd (true≢false (sym a))
+  effect_fresh (held_product out) a r = absurd (true≢false (sym a))
+  effect_fresh (gradient bnorm) a r = absurd (true≢false (sym a))
+  effect_fresh (above bnorm limit) a r = absurd (true≢false (sym a))
+  effect_fresh (jx_norm x) a r = absurd (true≢false (sym a))
+  effect_fresh (scaling md diag x bound) a r = absurd (true≢false (sym a))
+  effect_fresh determined a r = absurd (true≢false (sym a))
+  effect_fresh non_singular a r = absurd (true≢false (sym a))
 
-  tested-fresh : (c : StoreCall) (s : List Float) → is_store_solve c ≡ true → is_empty h ≡ false → tested_of c st order s ≡ 0 → tested_of c (with_held st h) order s ≡ 0
-  tested-fresh c s a e z =
+  tested_fresh : (c : StoreCall) (s : List Float) → is_store_solve c ≡ true → is_empty h ≡ false → tested_of c st order s ≡ 0 → tested_of c (with_held st h) order s ≡ 0
+  tested_fresh c s a e z =
       let f = (room_tested c st order s z).filled in
-      rw (e, shortest-fresh c a, further-fresh c a) (rw f at z)
+      rw (e, shortest_fresh c a, further_fresh c a) (rw f at z)
 
 call_fresh : (c : StoreCall) (st : State) (h : Held) (order : List ℕ) (s : List Float) → is_empty h ≡ false → settling c st order s ≡ true
     → (settling c (with_held st h) order s ≡ true) × (perform_store c (with_held st h) order s ≡ perform_store c st order s)
 call_fresh c st h order s e g =
     let both = (and-eq-true_iff (is_store_solve c) (eqb (tested_of c st order s) 0)).0 g in
     let z = eqb-true (tested_of c st order s) 0 both.1 in
-    let y = tested-fresh st h order c s both.0 e z in (
+    let y = tested_fresh st h order c s both.0 e z in (
       (and-eq-true_iff (is_store_solve c) (eqb (tested_of c (with_held st h) order s) 0)).1 (both.0, eq-eqb (tested_of c (with_held st h) order s) 0 y),
-      passed_is c (with_held st h) order s y ∙ ap (λ (x : Effect). effected st s x) (effect-fresh st h order c both.0 (load st.n s)) ∙ sym (passed_is c st order s z),
+      passed_is c (with_held st h) order s y ∙ ap (λ (x : Effect). effected st s x) (effect_fresh st h order c both.0 (load st.n s)) ∙ sym (passed_is c st order s z),
     )
 
 -- LAW
@@ -245,10 +245,10 @@ laws c = record {
   keeps = call_keeps c;
   lasts = call-lasts c;
   sizes = call-sizes c;
-  reads = λ st order s t p q a g. call-reads c st order s t p q a g;
-  settles = λ st order s t p q a h. call-settles c st order s t p q a h;
+  reads = λ st order s t p q a g. call_reads c st order s t p q a g;
+  settles = λ st order s t p q a h. call_settles c st order s t p q a h;
   otherwise = call_otherwise c;
   apart = λ st order s h. solve_apart c ((and-eq-true_iff (is_store_solve c) (eqb (tested_of c st order s) 0)).0 h).0;
   fresh = λ st h order s e g. call_fresh c st h order s e g;
-  orders = λ st o p s a b e. order-surplus st o p a b e c s;
+  orders = λ st o p s a b e. order_surplus st o p a b e c s;
 }

@@ -40,7 +40,7 @@ use Rattle.search.specs.inner.Read.{Ready}
 use Rattle.demands.specs.History.{Call, search, Outcome, of_base_outcome, of_search, of_base, perform, settling}
 use Rattle.demands.specs.History as any
 use Rattle.search.proofs.Calling.{ready}
-use Rattle.demands.proofs.SearchTable.{tests, tested, asked, given, ends, passed_is, refused-is, answered_otherwise, refused_eight}
+use Rattle.demands.proofs.SearchTable.{tests, tested, asked, given, ends, passed_is, refused_is, answered_otherwise, refused_eight}
 use Rattle.leaves.specs.Refusing.{NoneHold}
 use Rattle.demands.specs.Refusals.{shortest_of, further_of, store_tests}
 use Rattle.demands.specs.Eight.{store_breaks}
@@ -64,9 +64,9 @@ module _ (c : basic.StoreCall) where
   abbrev told : State → List ℕ → List Float → ℕ
   told st order s = basic.store_number (basic.perform_store c st order s).answer
 
-  pub base-settling : (st : State) (order : List ℕ) (s : List Float) → settling (any.base c) st order s ≡ base.settling c st order s
+  pub base_settling : (st : State) (order : List ℕ) (s : List Float) → settling (any.base c) st order s ≡ base.settling c st order s
   unfolding perform
-  base-settling st order s =
+  base_settling st order s =
       let ts = store_tests c st (length s) order in
       let q = tests_numbered c st (length s) order in
       ap (λ (b : Bool). basic.is_store_solve c && b)
@@ -79,19 +79,19 @@ module _ (c : basic.StoreCall) where
       by true e n = inr ((table.refused_eight c st order s).1 (n, e))
       by false e n = inl ((table.answered_otherwise c st order s).1 (n, e))
 
-  base-laws : LawsOf (perform (any.base c)) (is_held (any.base c)) (settling (any.base c))
+  base_laws : LawsOf (perform (any.base c)) (is_held (any.base c)) (settling (any.base c))
   unfolding perform
-  base-laws =
+  base_laws =
       let l = base.laws c in
       record {
         keeps = l.keeps;
         lasts = l.lasts;
         sizes = l.sizes;
         reads = λ st order s t p q a g. let x = l.reads st order s t p q a g in record { answer = ap of_base x.answer; state = x.state; out = x.out };
-        settles = λ st order s t p q a h. l.settles st order s t p q a (sym (base-settling st order s) ∙ h);
-        otherwise = λ st order s h. l.otherwise st order s (sym (base-settling st order s) ∙ h);
-        apart = λ st order s h. l.apart st order s (sym (base-settling st order s) ∙ h);
-        fresh = λ st h order s e g. let x = l.fresh st h order s e (sym (base-settling st order s) ∙ g) in (base-settling (with_held st h) order s ∙ x.0, ap of_base_outcome x.1);
+        settles = λ st order s t p q a h. l.settles st order s t p q a (sym (base_settling st order s) ∙ h);
+        otherwise = λ st order s h. l.otherwise st order s (sym (base_settling st order s) ∙ h);
+        apart = λ st order s h. l.apart st order s (sym (base_settling st order s) ∙ h);
+        fresh = λ st h order s e g. let x = l.fresh st h order s e (sym (base_settling st order s) ∙ g) in (base_settling (with_held st h) order s ∙ x.0, ap of_base_outcome x.1);
         orders = λ st o p s a b e. ap of_base_outcome (l.orders st o p s a b e);
       }
 
@@ -173,21 +173,21 @@ module _ (diag : List Float) (radius lambda : Float) (out : List Float) where
       by (inr x) e n = inr ((refused_eight st order diag radius lambda s out).1 (n, (x, e)))
 
   module _ (st : State) (order : List ℕ) (s : List Float) (e : by_tests st order s ≡ 0) where
-    is-ready : Ready st s order
-    is-ready = ready st s order diag radius lambda out refl e
+    is_ready : Ready st s order
+    is_ready = ready st s order diag radius lambda out refl e
 
     pub zero-tested : tested_of (zero st) st order s ≡ 0
     unfolding shortest_of further_of
-    zero-tested = rw (length-replicate st.n plus_zero) is-ready
+    zero-tested = rw (length-replicate st.n plus_zero) is_ready
 
     zero-settling : base.settling (zero st) st order s ≡ true
     zero-settling = eq-eqb (tested_of (zero st) st order s) 0 zero-tested
 
-    pub as-zero : (perform this st order s).store ≡ (basic.perform_store (zero st) st order s).store
+    pub as_zero : (perform this st order s).store ≡ (basic.perform_store (zero st) st order s).store
     unfolding perform basic.perform_store
-    as-zero =
+    as_zero =
         ap (λ (x : Ended Flagged). x.store) (passed_is st order diag radius lambda s out e) ∙ searched-store st (left st s) out (sees st order s) (answers st order s)
-        ∙ sym (zero_left st order s (zeros st.n) (rw (length-replicate st.n plus_zero) is-ready))
+        ∙ sym (zero_left st order s (zeros st.n) (rw (length-replicate st.n plus_zero) is_ready))
 
   -- by the two cases
   cases : (P : Outcome → Type 0) (st : State) (order : List ℕ) (s : List Float)
@@ -199,15 +199,15 @@ module _ (diag : List Float) (radius lambda : Float) (out : List Float) where
       by true e = p (eqb-true (by_tests st order s) 0 e)
       by false e =
           let n = eqb-false (by_tests st order s) 0 e in
-          subst (λ (x : Ended Flagged). P (of_search x)) (sym (refused-is st order diag radius lambda s out n)) (q n)
+          subst (λ (x : Ended Flagged). P (of_search x)) (sym (refused_is st order diag radius lambda s out n)) (q n)
 
-  search-keeps : (st : State) (order : List ℕ) (s : List Float) → Kept (load st.n s) (load st.n (perform this st order s).store)
-  search-keeps st order s = cases (λ (o : Outcome). Kept (load st.n s) (load st.n o.store)) st order s
-      (λ e. subst (λ (x : List Float). Kept (load st.n s) (load st.n x)) (sym (as-zero st order s e)) ((base.laws (zero st)).keeps st order s))
+  search_keeps : (st : State) (order : List ℕ) (s : List Float) → Kept (load st.n s) (load st.n (perform this st order s).store)
+  search_keeps st order s = cases (λ (o : Outcome). Kept (load st.n s) (load st.n o.store)) st order s
+      (λ e. subst (λ (x : List Float). Kept (load st.n s) (load st.n x)) (sym (as_zero st order s e)) ((base.laws (zero st)).keeps st order s))
       (λ h. record { upper = refl; qtb = refl; norms = refl; rest = refl })
 
   search-lasts : (st : State) (order : List ℕ) (s : List Float) → length (perform this st order s).store ≡ length s
-  search-lasts st order s = cases (λ (o : Outcome). length o.store ≡ length s) st order s (λ e. ap length (as-zero st order s e) ∙ (base.laws (zero st)).lasts st order s) (λ h. refl)
+  search-lasts st order s = cases (λ (o : Outcome). length o.store ≡ length s) st order s (λ e. ap length (as_zero st order s e) ∙ (base.laws (zero st)).lasts st order s) (λ h. refl)
 
   after : (st : State) (order : List ℕ) (s : List Float) → by_tests st order s ≡ 0 → (perform this st order s).state ≡ with_held st held.Nothing
   unfolding perform
@@ -222,9 +222,9 @@ module _ (diag : List Float) (radius lambda : Float) (out : List Float) where
     tested-same : by_tests st order s ≡ by_tests st order t
     tested-same = rw (le-ltb (length s) (store_need st.n) p, le-ltb (length t) (store_need st.n) q)
 
-    search-reads : Alike (load st.n s) (load st.n t) → ToldAlike (perform this st order s) (perform this st order t)
+    search_reads : Alike (load st.n s) (load st.n t) → ToldAlike (perform this st order s) (perform this st order t)
     unfolding perform
-    search-reads a =
+    search_reads a =
         let same : asked st order diag radius lambda s out ≡ asked st order diag radius lambda t out = rw (a.upper, a.qtb) in
         cases (λ (o : Outcome). ToldAlike o (perform this st order t)) st order s
         (λ e. subst (λ (x : Ended Flagged). ToldAlike (of_search x) (of_search (search_call st order diag radius lambda t out))) (sym (passed_is st order diag radius lambda s out e))
@@ -232,59 +232,59 @@ module _ (diag : List Float) (radius lambda : Float) (out : List Float) where
         (sym (passed_is st order diag radius lambda t out (sym tested-same ∙ e)))
         (subst (λ (y : Problem). ToldAlike (of_search (searched st (left st s) out (sees st order s) (answers st order s))) (of_search (searched st (left st t) out (saw y) (answer_of y lambda)))) same
         (searched-told st (left st s) (left st t) out (sees st order s) (answers st order s)))))
-        (λ h. subst (λ (x : Ended Flagged). ToldAlike (of_search (ended (refused (by_tests st order s)) st s out)) (of_search x)) (sym (refused-is st order diag radius lambda t out (λ e. h (tested-same ∙ e))))
+        (λ h. subst (λ (x : Ended Flagged). ToldAlike (of_search (ended (refused (by_tests st order s)) st s out)) (of_search x)) (sym (refused_is st order diag radius lambda t out (λ e. h (tested-same ∙ e))))
         (record { answer = ap (λ (k : ℕ). any.found (refused k)) tested-same; state = refl; out = refl }))
 
-    search-settles : Alike (load st.n s) (load st.n t) → settling this st order s ≡ true
+    search_settles : Alike (load st.n s) (load st.n t) → settling this st order s ≡ true
         → Settled (load st.n (perform this st order s).store) (load st.n (perform this st order t).store)
-    search-settles a h =
+    search_settles a h =
         let e = eqb-true (by_tests st order s) 0 (sym (search-settling st order s) ∙ h) in
-        rw (as-zero st order s e, as-zero st order t (sym tested-same ∙ e)) ((base.laws (zero st)).settles st order s t p q a (zero-settling st order s e))
+        rw (as_zero st order s e, as_zero st order t (sym tested-same ∙ e)) ((base.laws (zero st)).settles st order s t p q a (zero-settling st order s e))
 
-  search-otherwise : (st : State) (order : List ℕ) (s : List Float) → settling this st order s ≡ false
+  search_otherwise : (st : State) (order : List ℕ) (s : List Float) → settling this st order s ≡ false
       → Unsettled st (load st.n s) (perform this st order s).state (load st.n (perform this st order s).store)
-  search-otherwise st order s h = cases (λ (o : Outcome). Unsettled st (load st.n s) o.state (load st.n o.store)) st order s
+  search_otherwise st order s h = cases (λ (o : Outcome). Unsettled st (load st.n s) o.state (load st.n o.store)) st order s
       (λ e. absurd (true≢false (sym (eq-eqb (by_tests st order s) 0 e) ∙ sym (search-settling st order s) ∙ h)))
       (λ n. record { state = refl; below = refl; ldiag = refl })
 
-  search-fresh : (st : State) (h : Held) (order : List ℕ) (s : List Float) → is_empty h ≡ false → settling this st order s ≡ true
+  search_fresh : (st : State) (h : Held) (order : List ℕ) (s : List Float) → is_empty h ≡ false → settling this st order s ≡ true
       → (settling this (with_held st h) order s ≡ true) × (perform this (with_held st h) order s ≡ perform this st order s)
   unfolding perform
-  search-fresh st h order s i g =
+  search_fresh st h order s i g =
       let e = eqb-true (by_tests st order s) 0 (sym (search-settling st order s) ∙ g) in
-      let f = (solve_passed st (length s) order st.n (is-ready st order s e)).room.filled in
+      let f = (solve_passed st (length s) order st.n (is_ready st order s e)).room.filled in
       let y : by_tests (with_held st h) order s ≡ 0 = rw i (rw f at e) in (
         search-settling (with_held st h) order s ∙ eq-eqb (by_tests (with_held st h) order s) 0 y,
         ap of_search (passed_is (with_held st h) order diag radius lambda s out y ∙ searched-held st h (left st s) out (sees st order s) (answers st order s) ∙ sym (passed_is st order diag radius lambda s out e)),
       )
 
-  abbrev told-by : State → List Float → ℕ → Problem → Ended Flagged
-  told-by st s k p = elim (eqb k 0) [ true ↦ searched st (left st s) out (saw p) (answer_of p lambda) | false ↦ ended (refused k) st s out ]
+  abbrev told_by : State → List Float → ℕ → Problem → Ended Flagged
+  told_by st s k p = elim (eqb k 0) [ true ↦ searched st (left st s) out (saw p) (answer_of p lambda) | false ↦ ended (refused k) st s out ]
 
-  search-orders : (st : State) (o p : List ℕ) (s : List Float) → st.n ≤ length o → st.n ≤ length p → take st.n o ≡ take st.n p
+  search_orders : (st : State) (o p : List ℕ) (s : List Float) → st.n ≤ length o → st.n ≤ length p → take st.n o ≡ take st.n p
       → perform this st o s ≡ perform this st p s
   unfolding perform search_call
-  search-orders st o p s a b e =
+  search_orders st o p s a b e =
       let k = min (length diag) (length out) in
       let t : by_tests st o s ≡ by_tests st p s = rw (enough st.n (length o) k a, enough st.n (length p) k b, e) in
       let q : asked st o diag radius lambda s out ≡ asked st p diag radius lambda s out = rw e in
-      ap of_search (ap (λ (i : ℕ). told-by st s i (asked st o diag radius lambda s out)) t ∙ ap (λ (x : Problem). told-by st s (by_tests st p s) x) q)
+      ap of_search (ap (λ (i : ℕ). told_by st s i (asked st o diag radius lambda s out)) t ∙ ap (λ (x : Problem). told_by st s (by_tests st p s) x) q)
 
   -- LAW
-  pub search-laws : LawsOf (perform this) (is_held this) (settling this)
-  search-laws = record {
-    keeps = search-keeps;
+  pub search_laws : LawsOf (perform this) (is_held this) (settling this)
+  search_laws = record {
+    keeps = search_keeps;
     lasts = search-lasts;
     sizes = search-sizes;
-    reads = λ st order s t p q a g. search-reads st order s t p q a;
-    settles = λ st order s t p q a h. search-settles st order s t p q a h;
-    otherwise = search-otherwise;
+    reads = λ st order s t p q a g. search_reads st order s t p q a;
+    settles = λ st order s t p q a h. search_settles st order s t p q a h;
+    otherwise = search_otherwise;
     apart = λ st order s h. refl;
-    fresh = λ st h order s e g. search-fresh st h order s e g;
-    orders = λ st o p s a b e. search-orders st o p s a b e;
+    fresh = λ st h order s e g. search_fresh st h order s e g;
+    orders = λ st o p s a b e. search_orders st o p s a b e;
   }
 
 -- LAW
 pub laws : (c : Call) → LawsOf (perform c) (is_held c) (settling c)
-laws (any.base c) = base-laws c
-laws (search diag radius lambda out) = search-laws diag radius lambda out
+laws (any.base c) = base_laws c
+laws (search diag radius lambda out) = search_laws diag radius lambda out

@@ -17,7 +17,7 @@ use Rattle.factor.specs.declared.state.State.{State}
 use Rattle.measures.specs.declared.scaling.Mode.TheVariants as mode
 use Rattle.leaves.proofs.Refusals.{numbered, passed_iff, none_of_both}
 use Rattle.factor.proofs.Passed.{Passed, room_passed, passed_sized}
-use Rattle.factor.proofs.Layouts.{load-lay, load_shaped, leaving-shaped, rested-shaped, emptied-shaped}
+use Rattle.factor.proofs.Layouts.{load-lay, load_shaped, leaving_shaped, rested_shaped, emptied_shaped}
 use Rattle.eliminate.proofs.Triangular.{heads-length}
 use Rattle.eliminate.proofs.Settling.{tails-length}
 use Rattle.eliminate.proofs.Stairs.{damping_stepped, tails_tall}
@@ -64,8 +64,8 @@ module _ (c : StoreCall) (st : State) (order : List ℕ) (s : List Float) where
   pub passed_is : tested_of c st order s ≡ 0 → perform_store c st order s ≡ effected st s (effect c st order (load st.n s))
   passed_is e = perform_is c st order s ∙ rw (eq-eqb (tested_of c st order s) 0 e)
 
-  pub refused-is : (tested_of c st order s ≡ 0 → ⊥) → perform_store c st order s ≡ store_refusal c (tested_of c st order s) st s
-  refused-is h = perform_is c st order s ∙ rw (ne_eqb (tested_of c st order s) 0 h)
+  pub refused_is : (tested_of c st order s ≡ 0 → ⊥) → perform_store c st order s ≡ store_refusal c (tested_of c st order s) st s
+  refused_is h = perform_is c st order s ∙ rw (ne_eqb (tested_of c st order s) 0 h)
 
   pub performed : (P : StoreOutcome → Type 0) → (tested_of c st order s ≡ 0 → P (effected st s (effect c st order (load st.n s))))
       → ((tested_of c st order s ≡ 0 → ⊥) → P (store_refusal c (tested_of c st order s) st s)) → P (perform_store c st order s)
@@ -73,7 +73,7 @@ module _ (c : StoreCall) (st : State) (order : List ℕ) (s : List Float) where
     where
       by : (b : Bool) → eqb (tested_of c st order s) 0 ≡ b → P (perform_store c st order s)
       by true e = let z = eqb-true (tested_of c st order s) 0 e in subst P (sym (passed_is z)) (p z)
-      by false e = let z = eqb-false (tested_of c st order s) 0 e in subst P (sym (refused-is z)) (q z)
+      by false e = let z = eqb-false (tested_of c st order s) 0 e in subst P (sym (refused_is z)) (q z)
 
 -- ---- the room that is left
 pub either : (P : Effect → Type 0) (x : List Float) (e f : Effect) → P e → P f → P (finite_or x e f)
@@ -92,22 +92,22 @@ module _ (st : State) (order : List ℕ) (r : Room) (z : Shaped st.n r) where
   rows_left diag =
       let x = (damped_l st order diag r).0 in
       let w = damping_stepped st.n _ r.upper r.qtb z.upper_wide in
-      leaving-shaped st.n r z (tails x) (heads x) (tails-length x ∙ w.wide) (tails_tall st.n x w) (heads-length x ∙ w.wide)
+      leaving_shaped st.n r z (tails x) (heads x) (tails-length x ∙ w.wide) (tails_tall st.n x w) (heads-length x ∙ w.wide)
 
-  pub effect-shaped : (c : StoreCall) → Left (effect c st order r)
+  pub effect_shaped : (c : StoreCall) → Left (effect c st order r)
   unfolding effect
-  effect-shaped (zero_solve out) = either Left _ _ _ (emptied-shaped st.n r z) (emptied-shaped st.n r z)
-  effect-shaped (damped_solve diag out) = either Left _ _ _ (rows_left diag) (emptied-shaped st.n r z)
-  effect-shaped (held_solve rhs out) = either Left _ _ _ (rested-shaped st.n r z) (rested-shaped st.n r z)
-  effect-shaped (held_product out) = either Left _ _ _ (rested-shaped st.n r z) (rested-shaped st.n r z)
-  effect-shaped (gradient bnorm) = rested-shaped st.n r z
-  effect-shaped (above bnorm limit) = rested-shaped st.n r z
-  effect-shaped (jx_norm x) = rested-shaped st.n r z
-  effect-shaped (scaling md diag x bound) = rested-shaped st.n r z
-  effect-shaped determined = rested-shaped st.n r z
-  effect-shaped non_singular = rested-shaped st.n r z
+  effect_shaped (zero_solve out) = either Left _ _ _ (emptied_shaped st.n r z) (emptied_shaped st.n r z)
+  effect_shaped (damped_solve diag out) = either Left _ _ _ (rows_left diag) (emptied_shaped st.n r z)
+  effect_shaped (held_solve rhs out) = either Left _ _ _ (rested_shaped st.n r z) (rested_shaped st.n r z)
+  effect_shaped (held_product out) = either Left _ _ _ (rested_shaped st.n r z) (rested_shaped st.n r z)
+  effect_shaped (gradient bnorm) = rested_shaped st.n r z
+  effect_shaped (above bnorm limit) = rested_shaped st.n r z
+  effect_shaped (jx_norm x) = rested_shaped st.n r z
+  effect_shaped (scaling md diag x bound) = rested_shaped st.n r z
+  effect_shaped determined = rested_shaped st.n r z
+  effect_shaped non_singular = rested_shaped st.n r z
 
 -- LAW: the store after a call that passed its tests is the room that its effect says.
 pub room_after : (c : StoreCall) (st : State) (order : List ℕ) (s : List Float) → Sized st.n s → (let e = effect c st order (load st.n s) in
     load st.n (effected st s e).store ≡ leaving e.below e.ldiag (load st.n s))
-room_after c st order s z = load-lay st.n _ (effect-shaped st order (load st.n s) (load_shaped st.n s z) c)
+room_after c st order s z = load-lay st.n _ (effect_shaped st order (load st.n s) (load_shaped st.n s z) c)

@@ -18,11 +18,11 @@ use Rattle.search.specs.Search.{Flagged}
 use Rattle.leaves.specs.declared.norm.Ranges.{Ranges}
 use Rattle.search.proofs.AgainstEnorm.{enorm_is_norm}
 use Rattle.search.proofs.LmparVectors.{Enough}
-use Rattle.search.proofs.LmparCalls.{answers-as-lmpar}
-use Rattle.search.proofs.LmparFactored.{factored-enough}
+use Rattle.search.proofs.LmparCalls.{answers_as_lmpar}
+use Rattle.search.proofs.LmparFactored.{factored_enough}
 use Rattle.demands.specs.Calls.{run}
 use Rattle.demands.specs.History.{Call, perform, settling}
-use Rattle.demands.proofs.Histories.{run-size, run-rows}
+use Rattle.demands.proofs.Histories.{run-size, run_rows}
 use Rattle.demands.proofs.Laws.{laws}
 use Rattle.demands.proofs.AsFresh.{never_changed}
 use Rattle.search.specs.Against.{lent_of}
@@ -36,19 +36,19 @@ module _ (m n : ℕ) (jacobian residuals store : List Float) (order : List ℕ) 
     abbrev after : State × List Float
     after = run perform made.order cs made.state made.store
 
-    still-enough : Enough after.0.m (diagonal (load after.0.n after.1).upper)
-    still-enough =
-        let rows = sym (run-rows perform is_held settling laws made.order cs made.state made.store) in
+    still_enough : Enough after.0.m (diagonal (load after.0.n after.1).upper)
+    still_enough =
+        let rows = sym (run_rows perform is_held settling laws made.order cs made.state made.store) in
         let size = sym (run-size perform is_held settling laws made.order cs made.state made.store) in
         let kept = sym (never_changed made.order cs made.state made.store).upper in
         subst (λ (i : ℕ). Enough i (diagonal (load after.0.n after.1).upper)) rows
         (subst (λ (i : ℕ). Enough made.state.m (diagonal (load i after.1).upper)) size
-        (subst (λ (u : List (List Float)). Enough made.state.m (diagonal u)) kept (factored-enough m n jacobian residuals store order bench h)))
+        (subst (λ (u : List (List Float)). Enough made.state.m (diagonal u)) kept (factored_enough m n jacobian residuals store order bench h)))
 
     -- LAW
-    pub factored-answers-as-lmpar : (unset : Float) (diag : List Float) (radius lambda : Float) (out : List Float) (a : Flagged)
+    pub factored-answers_as_lmpar : (unset : Float) (diag : List Float) (radius lambda : Float) (out : List Float) (a : Flagged)
         → (search_call after.0 made.order diag radius lambda after.1 out).reply ≡ answered a
         → lmpar (minpack_enorm unset) dwarf (lent_of after.0 made.order diag radius after.1) lambda
         ≡ record { x = take after.0.n (search_call after.0 made.order diag radius lambda after.1 out).out; par = a.0.lambda; qrsolvs = a.0.trials }
-    factored-answers-as-lmpar unset diag radius lambda out a e =
-        answers-as-lmpar after.0 made.order diag radius lambda after.1 out a e (minpack_enorm unset) (enorm_is_norm unset) still-enough
+    factored-answers_as_lmpar unset diag radius lambda out a e =
+        answers_as_lmpar after.0 made.order diag radius lambda after.1 out a e (minpack_enorm unset) (enorm_is_norm unset) still_enough

@@ -20,14 +20,14 @@ use Rattle.factor.specs.State.{state_of, store_need, bench_need}
 use Rattle.factor.specs.declared.state.Held.TheVariants as held
 use Rattle.factor.specs.declared.state.State.{State as Plain}
 use Rattle.factor.specs.inner.Rooms.{Shaped}
-use Rattle.factor.proofs.Answered.{answered-shaped, answered-room, answered-state, answered-lower, answered-as-factored}
+use Rattle.factor.proofs.Answered.{answered_shaped, answered_room, answered-state, answered-lower, answered_as_factored}
 use Rattle.factor.proofs.Layouts.{lay-load}
 use Rattle.calls.specs.State.{marked}
 use Rattle.calls.specs.Factoring.{MarkedFactored, factored_as, marked_factoring}
 use Rattle.calls.proofs.Passed.{free_count-fits}
 use Rattle.demands.proofs.MarkedForms.{factoring_no_marks}
-use Rattle.demands.proofs.FrozenFactored.{free, freeJacobian, small, is-spread, spread-state}
-use Rattle.demands.proofs.SpreadRooms.{spread-as-factored}
+use Rattle.demands.proofs.FrozenFactored.{free, free_jacobian, small, is_spread, spread-state}
+use Rattle.demands.proofs.SpreadRooms.{spread_as_factored}
 
 pub record Made (m n marks : ℕ) (g : MarkedFactored) : Type 0 where
   pub state : g.state ≡ marked marks (state_of m n held.Nothing)
@@ -47,35 +47,35 @@ module _ (m n marks : ℕ) (jacobian residuals s : List Float) (order : List ℕ
   abbrev reduced : Room
   reduced = load few small_one.store
 
-  some-made : (marks ≡ 0 → ⊥) → {f : Ranges} → one.reply ≡ answered f → Made m n marks one
-  some-made k h =
-      let jac = freeJacobian m n marks jacobian residuals in
+  some_made : (marks ≡ 0 → ⊥) → {f : Ranges} → one.reply ≡ answered f → Made m n marks one
+  some_made k h =
+      let jac = free_jacobian m n marks jacobian residuals in
       let lent = zeros (store_need few) in
       let places = take few order in
       let scratch = zeros (bench_need m few) in
-      let z = is-spread m n marks jacobian residuals s order bench k h in
-      let a = answered-as-factored m few jac residuals lent places scratch z.answer in
-      let shape : Shaped few reduced = rw (answered-room m few jac residuals lent places scratch z.answer) (answered-shaped m few jac residuals lent places scratch z.answer) in
+      let z = is_spread m n marks jacobian residuals s order bench k h in
+      let a = answered_as_factored m few jac residuals lent places scratch z.answer in
+      let shape : Shaped few reduced = rw (answered_room m few jac residuals lent places scratch z.answer) (answered_shaped m few jac residuals lent places scratch z.answer) in
       let l = length-replicate (store_need few) plus_zero in
       let alone : reduced.rest ≡ [] = (answered-lower m few jac residuals lent places scratch z.answer).1.1.1 ∙ drop_of_length-le lent {i = store_need few} (omega arith) in
       let rest = drop (length (spread_out n few small_one.store)) s in
       let e : one.store ≡ spread_out n few (lay reduced) ++ rest = z.store ∙ ap (λ (x : List Float). spread_out n few x ++ rest) (sym (lay-load few small_one.store)) in
       record {
         state = spread-state m n marks jacobian residuals s order bench k h;
-        as_factored = rw e (spread-as-factored n few (free_count-fits n marks) reduced shape a alone rest);
+        as_factored = rw e (spread_as_factored n few (free_count-fits n marks) reduced shape a alone rest);
       }
 
   -- with none: the factoring without marks
-  abbrev plain-one : plain.Factored
-  plain-one = plain.factor_call m n jacobian residuals s order bench
+  abbrev plain_one : plain.Factored
+  plain_one = plain.factor_call m n jacobian residuals s order bench
 
   none_made : marks ≡ 0 → {f : Ranges} → one.reply ≡ answered f → Made m n marks one
   none_made k h =
-      let i : one ≡ factored_as plain-one = ap (λ (z : ℕ). marked_factoring m n z jacobian residuals s order bench) k ∙ factoring_no_marks m n jacobian residuals s order bench in
+      let i : one ≡ factored_as plain_one = ap (λ (z : ℕ). marked_factoring m n z jacobian residuals s order bench) k ∙ factoring_no_marks m n jacobian residuals s order bench in
       let x = sym (ap (λ (z : MarkedFactored). z.reply) i) ∙ h in
       subst (λ (z : MarkedFactored). Made m n marks z) (sym i) (record {
         state = ap (λ (z : Plain). marked 0 z) (answered-state m n jacobian residuals s order bench x) ∙ ap (λ (z : ℕ). marked z (state_of m n held.Nothing)) (sym k);
-        as_factored = answered-as-factored m n jacobian residuals s order bench x;
+        as_factored = answered_as_factored m n jacobian residuals s order bench x;
       })
 
   -- LAW
@@ -84,4 +84,4 @@ module _ (m n marks : ℕ) (jacobian residuals s : List Float) (order : List ℕ
     where
       by : (z : Bool) → eqb marks 0 ≡ z → Made m n marks one
       by true e = none_made (eqb-true marks 0 e) h
-      by false e = some-made (eqb-false marks 0 e) h
+      by false e = some_made (eqb-false marks 0 e) h

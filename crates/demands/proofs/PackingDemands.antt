@@ -32,33 +32,33 @@ use Rattle.demands.specs.History.{Call}
 use Rattle.demands.specs.Marked.{perform_under, settling_under}
 use Rattle.demands.specs.Putting.{Step, pack, perform_step, calls_of}
 use Rattle.demands.proofs.Packings.{pack_by_tests, unpack_by_tests, pack_keeps, pack_changes_nothing, packings_pass}
-use Rattle.demands.proofs.Unpackings.{unpacked-answered, unpacked-as-fresh, unpacked-as-factored, unpacked-same-run, unpacked-any}
+use Rattle.demands.proofs.Unpackings.{unpacked_answered, unpacked_as_fresh, unpacked_as_factored, unpacked_same-run, unpacked_any}
 
 -- ==== Demand 1. "2, 3, 4 and 5 as in 01, and 6 for a non-finite number in the packed room; both rooms unchanged"; and #108's 9.
 
 -- Packing is refused k exactly when k's condition is the first that holds ..
 module _ (st : State) (store : List Float) (order : List ℕ) (room : List Float) (places : List ℕ) where
-  pub demand-1-pack-refused : (k : ℕ) → 0 < k → (reply_number (pack_call st store order room places).reply ≡ k) ↔ RefusedBy (pack_tests st (length store) order (length room) (length places)) k
-  demand-1-pack-refused = (pack_by_tests st store order room places).refused_when
+  pub demand_1_pack_refused : (k : ℕ) → 0 < k → (reply_number (pack_call st store order room places).reply ≡ k) ↔ RefusedBy (pack_tests st (length store) order (length room) (length places)) k
+  demand_1_pack_refused = (pack_by_tests st store order room places).refused_when
 
   -- .. and then the packed room, its places and the state are as they came; the store and the order list it only reads; ..
-  pub demand-1-pack-unchanged : (k : ℕ) → 0 < k → RefusedBy (pack_tests st (length store) order (length room) (length places)) k → pack_call st store order room places ≡ put_away (refused k) st room places
-  demand-1-pack-unchanged = (pack_by_tests st store order room places).as_it_came
+  pub demand_1_pack_unchanged : (k : ℕ) → 0 < k → RefusedBy (pack_tests st (length store) order (length room) (length places)) k → pack_call st store order room places ≡ put_away (refused k) st room places
+  demand_1_pack_unchanged = (pack_by_tests st store order room places).as_it_came
 
   -- .. and otherwise it is answered.
-  pub demand-1-pack-answered : (reply_number (pack_call st store order room places).reply ≡ 0) ↔ NoneHold (pack_tests st (length store) order (length room) (length places))
-  demand-1-pack-answered = (pack_by_tests st store order room places).answered_when
+  pub demand_1_pack_answered : (reply_number (pack_call st store order room places).reply ≡ 0) ↔ NoneHold (pack_tests st (length store) order (length room) (length places))
+  demand_1_pack_answered = (pack_by_tests st store order room places).answered_when
 
 -- Unpacking the same, the store, the order list and the state as they came; the packed room and its places it only reads.
 module _ (st : State) (room : List Float) (places : List ℕ) (store : List Float) (order : List ℕ) where
-  pub demand-1-unpack-refused : (k : ℕ) → 0 < k → (reply_number (unpack_call st room places store order).reply ≡ k) ↔ RefusedBy (unpack_tests st room places (length store) (length order)) k
-  demand-1-unpack-refused = (unpack_by_tests st room places store order).refused_when
+  pub demand_1_unpack_refused : (k : ℕ) → 0 < k → (reply_number (unpack_call st room places store order).reply ≡ k) ↔ RefusedBy (unpack_tests st room places (length store) (length order)) k
+  demand_1_unpack_refused = (unpack_by_tests st room places store order).refused_when
 
-  pub demand-1-unpack-unchanged : (k : ℕ) → 0 < k → RefusedBy (unpack_tests st room places (length store) (length order)) k → unpack_call st room places store order ≡ put_away (refused k) st store order
-  demand-1-unpack-unchanged = (unpack_by_tests st room places store order).as_it_came
+  pub demand_1_unpack_unchanged : (k : ℕ) → 0 < k → RefusedBy (unpack_tests st room places (length store) (length order)) k → unpack_call st room places store order ≡ put_away (refused k) st store order
+  demand_1_unpack_unchanged = (unpack_by_tests st room places store order).as_it_came
 
-  pub demand-1-unpack-answered : (reply_number (unpack_call st room places store order).reply ≡ 0) ↔ NoneHold (unpack_tests st room places (length store) (length order))
-  demand-1-unpack-answered = (unpack_by_tests st room places store order).answered_when
+  pub demand_1_unpack_answered : (reply_number (unpack_call st room places store order).reply ≡ 0) ↔ NoneHold (unpack_tests st room places (length store) (length order))
+  demand_1_unpack_answered = (unpack_by_tests st room places store order).answered_when
 
 -- ==== Demand 3. Packings among the calls of a history.
 
@@ -89,19 +89,19 @@ module _ (m n marks : ℕ) (jacobian residuals store : List Float) (order : List
   back = unpack_call (marked marks (state_of m n j)) away.numbers away.places lent list
 
   -- It is answered ..
-  pub demand-3-unpacked-answered : {f : Ranges} → one.reply ≡ answered f → away.reply ≡ answered tt → is_empty j ≡ false → store_need n ≤ length lent → n ≤ length list → back.reply ≡ answered tt
-  demand-3-unpacked-answered a p = unpacked-answered m n marks jacobian residuals store order bench cs k room places a p j lent list
+  pub demand_3_unpacked_answered : {f : Ranges} → one.reply ≡ answered f → away.reply ≡ answered tt → is_empty j ≡ false → store_need n ≤ length lent → n ≤ length list → back.reply ≡ answered tt
+  demand_3_unpacked_answered a p = unpacked_answered m n marks jacobian residuals store order bench cs k room places a p j lent list
 
   -- .. and "every call on the unpacked problem answers as on the problem that was packed, with no solve held": after any run of calls from there a call tells what it
   -- tells after a fresh factoring of the same Jacobian and residuals with the same marks, in any other lent slices, and the latest of the run that settled.
-  pub demand-3-unpacked : {f : Ranges} → one.reply ≡ answered f → away.reply ≡ answered tt → is_empty j ≡ false → store_need n ≤ length lent → n ≤ length list
+  pub demand_3_unpacked : {f : Ranges} → one.reply ≡ answered f → away.reply ≡ answered tt → is_empty j ≡ false → store_need n ≤ length lent → n ≤ length list
       → (store' : List Float) (order' : List ℕ) (bench' : List Float) {g : Ranges}
       → (let other = marked_factoring m n marks jacobian residuals store' order' bench' in
       other.reply ≡ answered g → (ds : List Call) (c : Call)
       → (let y = run (perform_under marks) back.places ds (whole back.state) back.numbers in
       let z = run (perform_under marks) other.order (latest (perform_under marks) back.places (settling_under marks) [] ds (whole back.state) back.numbers) (whole other.state) other.store in
       ToldAlike (perform_under marks c y.0 back.places y.1) (perform_under marks c z.0 other.order z.1)))
-  demand-3-unpacked a p = unpacked-as-fresh m n marks jacobian residuals store order bench cs k room places a p j lent list
+  demand_3_unpacked a p = unpacked_as_fresh m n marks jacobian residuals store order bench cs k room places a p j lent list
 
 -- ==== "For any other room or state there is no fresh working to compare with; the rest of demand 3 holds there too."
 
@@ -114,27 +114,27 @@ module _ (st : State) (room : List Float) (places : List ℕ) (store store' : Li
   abbrev second : PutAway
   second = unpack_call st room places store' order'
 
-  pub demand-3-unpacked-any-run : first.reply ≡ answered tt → second.reply ≡ answered tt → (cs : List Call) (c : Call)
+  pub demand_3_unpacked_any_run : first.reply ≡ answered tt → second.reply ≡ answered tt → (cs : List Call) (c : Call)
       → (let x = run (perform_under st.marks) first.places cs (whole first.state) first.numbers in
       let y = run (perform_under st.marks) second.places cs (whole second.state) second.numbers in
       ToldAlike (perform_under st.marks c x.0 first.places x.1) (perform_under st.marks c y.0 second.places y.1))
-  demand-3-unpacked-any-run = unpacked-same-run st room places store store' order order'
+  demand_3_unpacked_any_run = unpacked_same-run st room places store store' order order'
 
-  pub demand-3-unpacked-any : first.reply ≡ answered tt → second.reply ≡ answered tt → (cs : List Call) (c : Call)
+  pub demand_3_unpacked_any : first.reply ≡ answered tt → second.reply ≡ answered tt → (cs : List Call) (c : Call)
       → (let x = run (perform_under st.marks) first.places cs (whole first.state) first.numbers in
       let y = run (perform_under st.marks) second.places (latest (perform_under st.marks) first.places (settling_under st.marks) [] cs (whole first.state) first.numbers) (whole second.state) second.numbers in
       ToldAlike (perform_under st.marks c x.0 first.places x.1) (perform_under st.marks c y.0 second.places y.1))
-  demand-3-unpacked-any = unpacked-any st room places store store' order order'
+  demand_3_unpacked_any = unpacked_any st room places store store' order order'
 
 -- What any answered unpacking leaves.
 module _ (st : State) (room : List Float) (places : List ℕ) (store : List Float) (order : List ℕ) where
   -- "leaves the store as after factoring"
-  pub demand-3-unpacked-as-factored : (unpack_call st room places store order).reply ≡ answered tt → AsFactored st.n (load st.n (unpack_call st room places store order).numbers)
-  demand-3-unpacked-as-factored = unpacked-as-factored st room places store order
+  pub demand_3_unpacked_as_factored : (unpack_call st room places store order).reply ≡ answered tt → AsFactored st.n (load st.n (unpack_call st room places store order).numbers)
+  demand_3_unpacked_as_factored = unpacked_as_factored st room places store order
 
   -- Packing what was unpacked gives the same doubles and places, in any room and places that are long enough.
-  pub demand-3-pack-unpack : (unpack_call st room places store order).reply ≡ answered tt → (k : Held) (room' : List Float) (places' : List ℕ) → is_empty k ≡ false → pack_need st.n ≤ length room' → st.n ≤ length places'
+  pub demand_3_pack_unpack : (unpack_call st room places store order).reply ≡ answered tt → (k : Held) (room' : List Float) (places' : List ℕ) → is_empty k ≡ false → pack_need st.n ≤ length room' → st.n ≤ length places'
       → (let back = unpack_call st room places store order in
       pack_call (marked_held st k) back.numbers back.places room' places'
       ≡ put_away (answered tt) (marked_held st k) (take (pack_need st.n) room ++ drop (pack_need st.n) room') (first_places st.n places places'))
-  demand-3-pack-unpack = pack-unpack-same st room places store order
+  demand_3_pack_unpack = pack-unpack-same st room places store order

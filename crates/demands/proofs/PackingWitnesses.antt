@@ -48,26 +48,26 @@ module _ (a b r marks : ℕ) where
   asked c = perform_under marks c (whole back.state) back.places back.numbers
 
 -- a damped solve is held when it is packed, its packing changes nothing, and its answer holds what was packed
-pub H-packed :
+pub h_packed :
     ((solved 3 4 8 0).0 ≡ state_of 1 2 held.Damped)
     × (run (perform_under 0) (factored 3 4 8 0).order (calls_of (steps 3 4 8 0)) (whole (factored 3 4 8 0).state) (factored 3 4 8 0).store ≡ solved 3 4 8 0)
     × ((perform_step 0 (pack (junk 8) (7 ∷ 7 ∷ [])) (solved 3 4 8 0).0 (factored 3 4 8 0).order (solved 3 4 8 0).1).answer ≡ packed (answered tt) (away 3 4 8 0).numbers (1 ∷ 0 ∷ []))
 unfolding opened_marked packing perform_step calls_of
-H-packed = (refl, refl, refl)
+h_packed = (refl, refl, refl)
 
 -- a zero solve of the unpacked problem gives (0, 2); a held call straight after unpacking is refused 5
-pub H-back :
+pub h_back :
     ((back 3 4 8 0).reply ≡ answered tt)
     × ((asked 3 4 8 0 (base (zero_solve (junk 2)))).out ≡ w 0 ∷ w 2 ∷ [])
     × ((asked 3 4 8 0 (base (held_product (junk 2)))).answer ≡ of_base (done (refused 5)))
     × ((asked 3 4 8 0 (base (held_solve (w 1 ∷ w 1 ∷ []) (junk 2)))).answer ≡ of_base (done (refused 5)))
 unfolding opened_marked packing perform_step
-H-back = (refl, refl, refl, refl)
+h_back = (refl, refl, refl, refl)
 
 -- column 0 frozen: the step of the row (3) alone, +0 at the frozen column; nothing held
-pub frozen-back :
+pub frozen_back :
     ((back 5 3 6 32768).reply ≡ answered tt)
     × ((asked 5 3 6 32768 (base (zero_solve (junk 2)))).out ≡ plus_zero ∷ w 2 ∷ [])
     × ((asked 5 3 6 32768 (base (held_product (junk 2)))).answer ≡ of_base (done (refused 5)))
 unfolding opened_marked packing perform_step
-frozen-back = (refl, refl, refl)
+frozen_back = (refl, refl, refl)

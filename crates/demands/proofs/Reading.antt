@@ -78,45 +78,45 @@ module _ (st : State) (order : List ℕ) (r t : Room) (a : Alike r t) where
   damped-same : (diag : List Float) → damped_l st order diag r ≡ damped_l st order diag t
   damped-same diag = rw (a.upper, a.qtb)
 
-  zero-out : (out : List Float) → scatter (take st.n order) (zero_x st r) out ≡ scatter (take st.n order) (zero_x st t) out
-  zero-out out = ap (λ (x : List Float). scatter (take st.n order) x out) zero_same
+  zero_out : (out : List Float) → scatter (take st.n order) (zero_x st r) out ≡ scatter (take st.n order) (zero_x st t) out
+  zero_out out = ap (λ (x : List Float). scatter (take st.n order) x out) zero_same
 
-  damped-out : (diag out : List Float)
+  damped_out : (diag out : List Float)
       → scatter (take st.n order) (damped_numbers (damped_l st order diag r)) out ≡ scatter (take st.n order) (damped_numbers (damped_l st order diag t)) out
-  damped-out diag out = ap (λ (l : Rows). scatter (take st.n order) (damped_numbers l) out) (damped-same diag)
+  damped_out diag out = ap (λ (l : Rows). scatter (take st.n order) (damped_numbers l) out) (damped-same diag)
 
   -- LAW: answer, what is held, and output
-  pub effect-reads : (c : StoreCall) → (is_store_held c ≡ true → HeldAlike r t) → SameTold (effect c st order r) (effect c st order t)
+  pub effect_reads : (c : StoreCall) → (is_store_held c ≡ true → HeldAlike r t) → SameTold (effect c st order r) (effect c st order t)
   unfolding effect
-  effect-reads (zero_solve out) h =
-      both SameTold _ _ _ _ _ _ zero_same (record { answer = refl; held = refl; out = zero-out out }) (record { answer = refl; held = refl; out = refl })
-  effect-reads (damped_solve diag out) h =
-      both SameTold _ _ _ _ _ _ (ap (λ (l : Rows). damped_numbers l) (damped-same diag)) (record { answer = refl; held = refl; out = damped-out diag out })
+  effect_reads (zero_solve out) h =
+      both SameTold _ _ _ _ _ _ zero_same (record { answer = refl; held = refl; out = zero_out out }) (record { answer = refl; held = refl; out = refl })
+  effect_reads (damped_solve diag out) h =
+      both SameTold _ _ _ _ _ _ (ap (λ (l : Rows). damped_numbers l) (damped-same diag)) (record { answer = refl; held = refl; out = damped_out diag out })
       (record { answer = refl; held = refl; out = refl })
-  effect-reads (held_solve rhs out) h =
+  effect_reads (held_solve rhs out) h =
       let e = solved-same st.held (gather (take st.n order) rhs) r t a (h refl) in
       both SameTold _ _ _ _ _ _ e (record { answer = refl; held = refl; out = ap (λ (x : List Float). written x out) e }) (record { answer = refl; held = refl; out = refl })
-  effect-reads (held_product out) h =
+  effect_reads (held_product out) h =
       let e = product-same st.held r t a (h refl) in
       both SameTold _ _ _ _ _ _ e (record { answer = refl; held = refl; out = ap (λ (x : List Float). written x out) e }) (record { answer = refl; held = refl; out = refl })
-  effect-reads (gradient bnorm) h =
+  effect_reads (gradient bnorm) h =
       let e : measure (gather (take st.n order) r.norms) bnorm r.upper r.qtb ≡ measure (gather (take st.n order) t.norms) bnorm t.upper t.qtb =
       rw (a.norms, a.upper, a.qtb) in
       record { answer = ap (λ (x : Reply Float). number x) e; held = refl; out = refl }
-  effect-reads (above bnorm limit) h =
+  effect_reads (above bnorm limit) h =
       let e : above_limit (gather (take st.n order) r.norms) bnorm limit r.upper r.qtb ≡ above_limit (gather (take st.n order) t.norms) bnorm limit t.upper t.qtb =
       rw (a.norms, a.upper, a.qtb) in
       record { answer = ap (λ (x : Reply Bool). truth x) e; held = refl; out = refl }
-  effect-reads (jx_norm x) h =
+  effect_reads (jx_norm x) h =
       let xs = gather (take st.n order) x in
       record { answer = ap (λ (u : List (List Float)). ranged (finite_or_8 (jx_norm_of xs u) (jx_ranges xs u))) a.upper; held = refl; out = refl }
-  effect-reads (scaling md diag x bound) h = record {
+  effect_reads (scaling md diag x bound) h = record {
     answer = ap (λ (l : List Float). scaled (rescaled md st.n l diag x bound).0) a.norms;
     held = refl;
     out = ap (λ (l : List Float). (rescaled md st.n l diag x bound).1) a.norms;
   }
-  effect-reads determined h = record { answer = ap (λ (u : List (List Float)). count (answered (determined_of st.m u))) a.upper; held = refl; out = refl }
-  effect-reads non_singular h = record { answer = ap (λ (u : List (List Float)). truth (answered (non_singular_of st.m st.n u))) a.upper; held = refl; out = refl }
+  effect_reads determined h = record { answer = ap (λ (u : List (List Float)). count (answered (determined_of st.m u))) a.upper; held = refl; out = refl }
+  effect_reads non_singular h = record { answer = ap (λ (u : List (List Float)). truth (answered (non_singular_of st.m st.n u))) a.upper; held = refl; out = refl }
 
   module _ (z : Shaped st.n r) (y : Shaped st.n t) where
     below-cleared : cleared r.below ≡ cleared t.below
@@ -125,29 +125,29 @@ module _ (st : State) (order : List ℕ) (r t : Room) (a : Alike r t) where
         cleared-same r.below t.below (z.below_wide ∙ sym y.below_wide)
         (λ k h. z.below_tall k (omega arith) ∙ sym (y.below_tall k (omega arith)))
 
-    ldiag-cleared : zeros (length r.ldiag) ≡ zeros (length t.ldiag)
-    ldiag-cleared = ap zeros (z.ldiag_long ∙ sym y.ldiag_long)
+    ldiag_cleared : zeros (length r.ldiag) ≡ zeros (length t.ldiag)
+    ldiag_cleared = ap zeros (z.ldiag_long ∙ sym y.ldiag_long)
 
     damped-left : (diag : List Float)
         → (tails (damped_l st order diag r).0 ≡ tails (damped_l st order diag t).0) × (heads (damped_l st order diag r).0 ≡ heads (damped_l st order diag t).0)
     damped-left diag = (ap (λ (l : Rows). tails l.0) (damped-same diag), ap (λ (l : Rows). heads l.0) (damped-same diag))
 
     -- LAW: what a solve leaves, whatever stood below the diagonal and in l_diag
-    pub effect-settles : (c : StoreCall) → is_store_solve c ≡ true → SameLeft (effect c st order r) (effect c st order t)
+    pub effect_settles : (c : StoreCall) → is_store_solve c ≡ true → SameLeft (effect c st order r) (effect c st order t)
     unfolding effect
-    effect-settles (zero_solve out) h =
-        both SameLeft _ _ _ _ _ _ zero_same (record { below = below-cleared; ldiag = ldiag-cleared }) (record { below = below-cleared; ldiag = ldiag-cleared })
-    effect-settles (damped_solve diag out) h =
+    effect_settles (zero_solve out) h =
+        both SameLeft _ _ _ _ _ _ zero_same (record { below = below-cleared; ldiag = ldiag_cleared }) (record { below = below-cleared; ldiag = ldiag_cleared })
+    effect_settles (damped_solve diag out) h =
         both SameLeft _ _ _ _ _ _ (ap (λ (l : Rows). damped_numbers l) (damped-same diag)) (record { below = (damped-left diag).0; ldiag = (damped-left diag).1 })
-        (record { below = below-cleared; ldiag = ldiag-cleared })
-    effect-settles (held_solve rhs out) h = absurd (true≢false (sym h))
-    effect-settles (held_product out) h = absurd (true≢false (sym h))
-    effect-settles (gradient bnorm) h = absurd (true≢false (sym h))
-    effect-settles (above bnorm limit) h = absurd (true≢false (sym h))
-    effect-settles (jx_norm x) h = absurd (true≢false (sym h))
-    effect-settles (scaling md diag x bound) h = absurd (true≢false (sym h))
-    effect-settles determined h = absurd (true≢false (sym h))
-    effect-settles non_singular h = absurd (true≢false (sym h))
+        (record { below = below-cleared; ldiag = ldiag_cleared })
+    effect_settles (held_solve rhs out) h = absurd (true≢false (sym h))
+    effect_settles (held_product out) h = absurd (true≢false (sym h))
+    effect_settles (gradient bnorm) h = absurd (true≢false (sym h))
+    effect_settles (above bnorm limit) h = absurd (true≢false (sym h))
+    effect_settles (jx_norm x) h = absurd (true≢false (sym h))
+    effect_settles (scaling md diag x bound) h = absurd (true≢false (sym h))
+    effect_settles determined h = absurd (true≢false (sym h))
+    effect_settles non_singular h = absurd (true≢false (sym h))
 
 -- LAW: every other call rests.
 pub effect_rests : (st : State) (order : List ℕ) (r : Room) (c : StoreCall) → is_store_solve c ≡ false → Rests st r (effect c st order r)

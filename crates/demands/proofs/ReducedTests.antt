@@ -16,10 +16,10 @@ use Rattle.leaves.specs.Tests.{outside, Test, all_finite, none_zero}
 use Rattle.leaves.specs.Refusing.{NoneHold}
 use Rattle.leaves.proofs.Insides.{Inside, within}
 use Rattle.leaves.proofs.Refusals.{numbered, none_of_both}
-use Rattle.frozen.specs.Frozen.{freeOf}
+use Rattle.frozen.specs.Frozen.{free_of}
 use Rattle.frozen.proofs.Reduces.{marks-length, free_length, free_finite, free_none_zero, narrowed-length}
 use Rattle.factor.specs.State.{is_empty, store_need}
-use Rattle.factor.specs.Tests.{is_permutation, held_test, finite_test, finite_number, not_above, below}
+use Rattle.factor.specs.Tests.{is_permutation, held_test, finite_test, finite_not_nan, not_above, below}
 use Rattle.factor.specs.Tests as plain
 use Rattle.measures.specs.declared.scaling.Mode.TheVariants as mode
 use Rattle.calls.specs.declared.state.State.{State}
@@ -27,7 +27,7 @@ use Rattle.calls.specs.State.{marks_in, cols, whole, without_frozen}
 use Rattle.calls.specs.Tests.{continues, is_order, marked_room_tests, form_test, free_test}
 use Rattle.calls.specs.Outcome.{narrowed_in}
 use Rattle.calls.specs.Rescale.{marked_scaling_tests}
-use Rattle.calls.proofs.Passed.{Ready, none-ready}
+use Rattle.calls.proofs.Passed.{Ready, none_ready}
 use Rattle.demands.specs.Calls.{zero_solve, damped_solve, held_solve, held_product, gradient, above, jx_norm, scaling, determined, non_singular}
 use Rattle.demands.specs.History.{Call, base, search}
 use Rattle.demands.specs.Refusals.{shortest_of, further_of, tests_of}
@@ -46,17 +46,17 @@ further_by (base (zero_solve out)) st order = form_test st order ∷ []
 further_by (base (damped_solve diag out)) st order = form_test st order ∷ finite_test (whole st) diag ∷ []
 further_by (base (held_solve rhs out)) st order = form_test st order ∷ held_test (whole st) ∷ finite_test (whole st) rhs ∷ []
 further_by (base (held_product out)) st order = held_test (whole st) ∷ []
-further_by (base (gradient bnorm)) st order = form_test st order ∷ finite_number bnorm ∷ (not_above bnorm, 7) ∷ []
-further_by (base (above bnorm limit)) st order = form_test st order ∷ finite_number bnorm ∷ finite_number limit ∷ (not_above bnorm, 7) ∷ (below limit, 7) ∷ []
+further_by (base (gradient bnorm)) st order = form_test st order ∷ finite_not_nan bnorm ∷ (not_above bnorm, 7) ∷ []
+further_by (base (above bnorm limit)) st order = form_test st order ∷ finite_not_nan bnorm ∷ finite_not_nan limit ∷ (not_above bnorm, 7) ∷ (below limit, 7) ∷ []
 further_by (base (jx_norm x)) st order = form_test st order ∷ finite_test (whole st) x ∷ []
-further_by (base (scaling mode.FirstScaled diag x bound)) st order = finite_test (whole st) x ∷ finite_number bound ∷ (not_above bound, 7) ∷ []
-further_by (base (scaling mode.FirstUnscaled diag x bound)) st order = finite_test (whole st) x ∷ finite_number bound ∷ (not_above bound, 7) ∷ []
+further_by (base (scaling mode.FirstScaled diag x bound)) st order = finite_test (whole st) x ∷ finite_not_nan bound ∷ (not_above bound, 7) ∷ []
+further_by (base (scaling mode.FirstUnscaled diag x bound)) st order = finite_test (whole st) x ∷ finite_not_nan bound ∷ (not_above bound, 7) ∷ []
 further_by (base (scaling mode.LaterScaled diag x bound)) st order = finite_test (whole st) diag ∷ []
 further_by (base (scaling mode.LaterUnscaled diag x bound)) st order = []
 further_by (base determined) st order = []
 further_by (base non_singular) st order = []
 further_by (search diag radius lambda out) st order =
-    form_test st order ∷ finite_test (whole st) diag ∷ finite_number radius ∷ finite_number lambda ∷ (not_above radius, 7) ∷ (below lambda, 7) ∷ (not (none_zero (take st.n diag)), 7) ∷ []
+    form_test st order ∷ finite_test (whole st) diag ∷ finite_not_nan radius ∷ finite_not_nan lambda ∷ (not_above radius, 7) ∷ (below lambda, 7) ∷ (not (none_zero (take st.n diag)), 7) ∷ []
 
 pub tests_split : (c : Call) (st : State) (order : List ℕ) (s : List Float)
     → tests_marked c st order s ≡ marked_room_tests st (length s) (shortest_by c st order) ++ (further_by c st order ++ (free_test st ∷ []))
@@ -104,11 +104,11 @@ module _ (c : Call) (st : State) (order : List ℕ) (s : List Float) (h : NoneHo
   further-split : NoneHold (further_by c st order) × NoneHold (free_test st ∷ [])
   further-split = none_of_both (further_by c st order) (free_test st ∷ []) split.1
 
-  pub marked-ready : Ready st s (shortest_by c st order)
-  marked-ready = none-ready st s (shortest_by c st order) split.0 further-split.1
+  pub marked_ready : Ready st s (shortest_by c st order)
+  marked_ready = none_ready st s (shortest_by c st order) split.0 further-split.1
 
-  pub further-passed : NoneHold (further_by c st order)
-  further-passed = further-split.0
+  pub further_passed : NoneHold (further_by c st order)
+  further_passed = further-split.0
 
 -- ---- one test of each kind, on the problem without the frozen columns
 module _ (st : State) (s : List Float) (k : ℕ) (r : Ready st s k) where
@@ -118,8 +118,8 @@ module _ (st : State) (s : List Float) (k : ℕ) (r : Ready st s k) where
   pub fewer : free ≤ st.n
   fewer = r.reducible.fits
 
-  pub small-long : length (narrowed_in st s) ≡ store_need free
-  small-long = narrowed-length st.n free s fewer r.reducible.long
+  pub small_long : length (narrowed_in st s) ≡ store_need free
+  small_long = narrowed-length st.n free s fewer r.reducible.long
 
   pub small_inside : Inside st.m free
   small_inside =
@@ -129,15 +129,15 @@ module _ (st : State) (s : List Float) (k : ℕ) (r : Ready st s k) where
       record { rows_some = i.rows_some; rows_few = i.rows_few; cols_some = r.reducible.some; cols_few = omega arith }
 
   -- emptiness, sizes and lengths, then what else is passed
-  room-and : {X : Type 0} (j : ℕ) → free ≤ j → X
+  room_and : {X : Type 0} (j : ℕ) → free ≤ j → X
       → (is_empty st.held ≡ false) × ((outside st.m free ≡ false) × (((ltb (length (narrowed_in st s)) (store_need free) || ltb j free) ≡ false) × X))
-  room-and j l x =
-      let e = le-ltb (length (narrowed_in st s)) (store_need free) (rw small-long (le_refl (store_need free))) in
+  room_and j l x =
+      let e = le-ltb (length (narrowed_in st s)) (store_need free) (rw small_long (le_refl (store_need free))) in
       (r.filled, (within st.m free small_inside, (rw (e, le-ltb j free l), x)))
 
   module _ (order : List ℕ) where
-    taken-long : st.n ≤ length order → length (take free order) ≡ free
-    taken-long l = let b = fewer in length-take-le free order (omega arith)
+    taken_long : st.n ≤ length order → length (take free order) ≡ free
+    taken_long l = let b = fewer in length-take-le free order (omega arith)
 
     ordered : (form_test st order).0 ≡ false → (plain.order_test (without_frozen st) (take free order)).0 ≡ false
     ordered h =
@@ -146,26 +146,26 @@ module _ (st : State) (s : List Float) (k : ℕ) (r : Ready st s k) where
         rw (take-take free free order (le_refl free), p)
 
   module _ (xs : List Float) (l : st.n ≤ length xs) where
-    pub gathered-long : length (freeOf (marks_in st) xs) ≡ free
-    gathered-long = let e = marks-length st.n st.marks in free_length (marks_in st) xs (omega arith)
+    pub gathered_long : length (free_of (marks_in st) xs) ≡ free
+    gathered_long = let e = marks-length st.n st.marks in free_length (marks_in st) xs (omega arith)
 
-    gathered-whole : take free (freeOf (marks_in st) xs) ≡ freeOf (marks_in st) xs
-    gathered-whole = let e = gathered-long in take_all free (freeOf (marks_in st) xs) (omega arith)
+    gathered_whole : take free (free_of (marks_in st) xs) ≡ free_of (marks_in st) xs
+    gathered_whole = let e = gathered_long in take_all free (free_of (marks_in st) xs) (omega arith)
 
-    finite-still : (finite_test (whole st) xs).0 ≡ false → (finite_test (without_frozen st) (freeOf (marks_in st) xs)).0 ≡ false
-    finite-still h =
+    finite_still : (finite_test (whole st) xs).0 ≡ false → (finite_test (without_frozen st) (free_of (marks_in st) xs)).0 ≡ false
+    finite_still h =
         let e = marks-length st.n st.marks in
         let f : all_finite (take (length (marks_in st)) xs) ≡ true = rw e (not-false (all_finite (take st.n xs)) h) in
-        rw (gathered-whole, free_finite (marks_in st) xs f)
+        rw (gathered_whole, free_finite (marks_in st) xs f)
 
-    nonzero-still : not (none_zero (take st.n xs)) ≡ false → not (none_zero (take free (freeOf (marks_in st) xs))) ≡ false
-    nonzero-still h =
+    nonzero_still : not (none_zero (take st.n xs)) ≡ false → not (none_zero (take free (free_of (marks_in st) xs))) ≡ false
+    nonzero_still h =
         let e = marks-length st.n st.marks in
         let f : none_zero (take (length (marks_in st)) xs) ≡ true = rw e (not-false (none_zero (take st.n xs)) h) in
-        rw (gathered-whole, free_none_zero (marks_in st) xs f)
+        rw (gathered_whole, free_none_zero (marks_in st) xs f)
 
-  zeros-long : length (zeros free) ≡ free
-  zeros-long = length-replicate free plus_zero
+  zeros_long : length (zeros free) ≡ free
+  zeros_long = length-replicate free plus_zero
 
 -- LAW
 module _ (st : State) (order : List ℕ) (s : List Float) where
@@ -177,85 +177,85 @@ module _ (st : State) (order : List ℕ) (s : List Float) where
   passes (base (zero_solve out)) r w =
       let k = min (length order) (length out) in
       let l = r.each_long in
-      let o = taken-long st s k r order (omega arith) in
-      let z = zeros-long st s k r in
-      room-and st s k r (min (length (take (cols st) order)) (length (zeros (cols st)))) (omega arith) (ordered st s k r order w.0, tt)
+      let o = taken_long st s k r order (omega arith) in
+      let z = zeros_long st s k r in
+      room_and st s k r (min (length (take (cols st) order)) (length (zeros (cols st)))) (omega arith) (ordered st s k r order w.0, tt)
   passes (base (damped_solve diag out)) r w =
       let k = min (length order) (min (length diag) (length out)) in
       let l = r.each_long in
-      let o = taken-long st s k r order (omega arith) in
-      let z = zeros-long st s k r in
+      let o = taken_long st s k r order (omega arith) in
+      let z = zeros_long st s k r in
       let gl : st.n ≤ length diag = omega arith in
-      let g = gathered-long st s k r diag gl in
-      room-and st s k r (min (length (take (cols st) order)) (min (length (freeOf (marks_in st) diag)) (length (zeros (cols st))))) (omega arith) (ordered st s k r order w.0, (finite-still st s k r diag gl w.1.0, tt))
+      let g = gathered_long st s k r diag gl in
+      room_and st s k r (min (length (take (cols st) order)) (min (length (free_of (marks_in st) diag)) (length (zeros (cols st))))) (omega arith) (ordered st s k r order w.0, (finite_still st s k r diag gl w.1.0, tt))
   passes (base (held_solve rhs out)) r w =
       let k = min (length order) (min (length rhs) (length out)) in
       let l = r.each_long in
-      let o = taken-long st s k r order (omega arith) in
-      let z = zeros-long st s k r in
+      let o = taken_long st s k r order (omega arith) in
+      let z = zeros_long st s k r in
       let gl : st.n ≤ length rhs = omega arith in
-      let g = gathered-long st s k r rhs gl in
-      room-and st s k r (min (length (take (cols st) order)) (min (length (freeOf (marks_in st) rhs)) (length (zeros (cols st))))) (omega arith) (ordered st s k r order w.0, (w.1.0, (finite-still st s k r rhs gl w.1.1.0, tt)))
+      let g = gathered_long st s k r rhs gl in
+      room_and st s k r (min (length (take (cols st) order)) (min (length (free_of (marks_in st) rhs)) (length (zeros (cols st))))) (omega arith) (ordered st s k r order w.0, (w.1.0, (finite_still st s k r rhs gl w.1.1.0, tt)))
   passes (base (held_product out)) r w =
       let k = length out in
       let l = r.each_long in
-      let z = zeros-long st s k r in
-      room-and st s k r (length (zeros (cols st))) (omega arith) w
+      let z = zeros_long st s k r in
+      room_and st s k r (length (zeros (cols st))) (omega arith) w
   passes (base (gradient bnorm)) r w =
       let k = length order in
       let l = r.each_long in
-      let o = taken-long st s k r order (omega arith) in
-      room-and st s k r (length (take (cols st) order)) (omega arith) (ordered st s k r order w.0, w.1)
+      let o = taken_long st s k r order (omega arith) in
+      room_and st s k r (length (take (cols st) order)) (omega arith) (ordered st s k r order w.0, w.1)
   passes (base (above bnorm limit)) r w =
       let k = length order in
       let l = r.each_long in
-      let o = taken-long st s k r order (omega arith) in
-      room-and st s k r (length (take (cols st) order)) (omega arith) (ordered st s k r order w.0, w.1)
+      let o = taken_long st s k r order (omega arith) in
+      room_and st s k r (length (take (cols st) order)) (omega arith) (ordered st s k r order w.0, w.1)
   passes (base (jx_norm x)) r w =
       let k = min (length order) (length x) in
       let l = r.each_long in
-      let o = taken-long st s k r order (omega arith) in
+      let o = taken_long st s k r order (omega arith) in
       let gl : st.n ≤ length x = omega arith in
-      let g = gathered-long st s k r x gl in
-      room-and st s k r (min (length (take (cols st) order)) (length (freeOf (marks_in st) x))) (omega arith) (ordered st s k r order w.0, (finite-still st s k r x gl w.1.0, tt))
+      let g = gathered_long st s k r x gl in
+      room_and st s k r (min (length (take (cols st) order)) (length (free_of (marks_in st) x))) (omega arith) (ordered st s k r order w.0, (finite_still st s k r x gl w.1.0, tt))
   passes (base (scaling mode.FirstScaled diag x bound)) r w =
       let k = min (length diag) (length x) in
       let l = r.each_long in
       let dl : st.n ≤ length diag = omega arith in
-      let d = gathered-long st s k r diag dl in
+      let d = gathered_long st s k r diag dl in
       let gl : st.n ≤ length x = omega arith in
-      let g = gathered-long st s k r x gl in
-      room-and st s k r (min (length (freeOf (marks_in st) diag)) (length (freeOf (marks_in st) x))) (omega arith) (finite-still st s k r x gl w.0, w.1)
+      let g = gathered_long st s k r x gl in
+      room_and st s k r (min (length (free_of (marks_in st) diag)) (length (free_of (marks_in st) x))) (omega arith) (finite_still st s k r x gl w.0, w.1)
   passes (base (scaling mode.FirstUnscaled diag x bound)) r w =
       let k = min (length diag) (length x) in
       let l = r.each_long in
       let dl : st.n ≤ length diag = omega arith in
-      let d = gathered-long st s k r diag dl in
+      let d = gathered_long st s k r diag dl in
       let gl : st.n ≤ length x = omega arith in
-      let g = gathered-long st s k r x gl in
-      room-and st s k r (min (length (freeOf (marks_in st) diag)) (length (freeOf (marks_in st) x))) (omega arith) (finite-still st s k r x gl w.0, w.1)
+      let g = gathered_long st s k r x gl in
+      room_and st s k r (min (length (free_of (marks_in st) diag)) (length (free_of (marks_in st) x))) (omega arith) (finite_still st s k r x gl w.0, w.1)
   passes (base (scaling mode.LaterScaled diag x bound)) r w =
       let k = length diag in
       let l = r.each_long in
       let gl : st.n ≤ length diag = omega arith in
-      let g = gathered-long st s k r diag gl in
-      room-and st s k r (length (freeOf (marks_in st) diag)) (omega arith) (finite-still st s k r diag gl w.0, tt)
+      let g = gathered_long st s k r diag gl in
+      room_and st s k r (length (free_of (marks_in st) diag)) (omega arith) (finite_still st s k r diag gl w.0, tt)
   passes (base (scaling mode.LaterUnscaled diag x bound)) r w =
       let k = length diag in
       let l = r.each_long in
       let gl : st.n ≤ length diag = omega arith in
-      let g = gathered-long st s k r diag gl in
-      room-and st s k r (length (freeOf (marks_in st) diag)) (omega arith) tt
-  passes (base determined) r w = room-and st s st.n r (cols st) (le_refl (cols st)) tt
-  passes (base non_singular) r w = room-and st s st.n r (cols st) (le_refl (cols st)) tt
+      let g = gathered_long st s k r diag gl in
+      room_and st s k r (length (free_of (marks_in st) diag)) (omega arith) tt
+  passes (base determined) r w = room_and st s st.n r (cols st) (le_refl (cols st)) tt
+  passes (base non_singular) r w = room_and st s st.n r (cols st) (le_refl (cols st)) tt
   passes (search diag radius lambda out) r w =
       let k = min (length order) (min (length diag) (length out)) in
       let l = r.each_long in
-      let o = taken-long st s k r order (omega arith) in
-      let z = zeros-long st s k r in
+      let o = taken_long st s k r order (omega arith) in
+      let z = zeros_long st s k r in
       let gl : st.n ≤ length diag = omega arith in
-      let g = gathered-long st s k r diag gl in
-      room-and st s k r (min (length (take (cols st) order)) (min (length (freeOf (marks_in st) diag)) (length (zeros (cols st))))) (omega arith) (ordered st s k r order w.0, (finite-still st s k r diag gl w.1.0, (w.1.1.0, (w.1.1.1.0, (w.1.1.1.1.0, (w.1.1.1.1.1.0, (nonzero-still st s k r diag gl w.1.1.1.1.1.1.0, tt)))))))
+      let g = gathered_long st s k r diag gl in
+      room_and st s k r (min (length (take (cols st) order)) (min (length (free_of (marks_in st) diag)) (length (zeros (cols st))))) (omega arith) (ordered st s k r order w.0, (finite_still st s k r diag gl w.1.0, (w.1.1.0, (w.1.1.1.0, (w.1.1.1.1.0, (w.1.1.1.1.1.0, (nonzero_still st s k r diag gl w.1.1.1.1.1.1.0, tt)))))))
 
   pub reduced-passes : (c : Call) → NoneHold (tests_marked c st order s) → NoneHold (lent c)
-  reduced-passes c h = passes c (marked-ready c st order s h) (further-passed c st order s h)
+  reduced-passes c h = passes c (marked_ready c st order s h) (further_passed c st order s h)

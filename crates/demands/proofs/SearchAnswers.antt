@@ -43,7 +43,7 @@ use Rattle.demands.proofs.SearchTable.{tests, tested, asked, call, ends, passed_
 use Rattle.search.proofs.Runs.{Counted, stop-same}
 use Rattle.search.proofs.Signs.{above_not_below}
 use Rattle.search.proofs.Falling.{falling_not_first}
-use Rattle.search.proofs.Rules.{Undamped, Damped, Answered, answered-rules}
+use Rattle.search.proofs.Rules.{Undamped, Damped, Answered, answered_rules}
 use Rattle.factor.specs.inner.Rooms.{Shaped}
 use Rattle.leaves.specs.Refusing.{NoneHold}
 
@@ -57,14 +57,14 @@ module _ (st : State) (order : List ℕ) (diag : List Float) (radius : Float) (r
   abbrev problem : Problem
   problem = record { m = st.m; upper = room.upper; qtb = room.qtb; order = take st.n order; diag = take st.n diag; radius = radius }
 
-  undamped-long : length (undamped_step problem) ≡ st.n
+  undamped_long : length (undamped_step problem) ≡ st.n
   unfolding undamped_step placed
-  undamped-long =
+  undamped_long =
       placed-length (take st.n order) (zero_solved st.m room.upper room.qtb) ∙ zero-length st.m room.upper room.qtb (z.upper_wide ∙ sym z.qtb_long) ∙ z.qtb_long
 
-  damped-long : (lambda : Float) → length (damped_step problem lambda) ≡ st.n
+  damped_long : (lambda : Float) → length (damped_step problem lambda) ≡ st.n
   unfolding damped_step damped_rows placed
-  damped-long lambda =
+  damped_long lambda =
       let ds = scale_all (root_s lambda) (take st.n diag) in
       let l = damping (gather (take st.n order) ds) room.upper room.qtb in
       placed-length (take st.n order) (damped_solved (heads l.0) (tails l.0) l.1) ∙ damped-length (heads l.0) (tails l.0) l.1 ∙ (gathered_even st.n order ds room z ol).1
@@ -73,88 +73,88 @@ module _ (st : State) (order : List ℕ) (diag : List Float) (radius lambda : Fl
   abbrev room : Room
   room = load st.n store
 
-  abbrev problem-asked : Problem
-  problem-asked = asked st order diag radius lambda store out
+  abbrev problem_asked : Problem
+  problem_asked = asked st order diag radius lambda store out
 
   -- the computed undamped scaled norm less the radius
   abbrev pub overshoot : Float
-  overshoot = sub binary64 (scaled_norm problem-asked (undamped_step problem-asked)) radius
+  overshoot = sub binary64 (scaled_norm problem_asked (undamped_step problem_asked)) radius
 
   module _ (h : (search_call st order diag radius lambda store out).reply ≡ answered a) where
-    none-held : NoneHold (tests st order diag radius lambda store out)
-    none-held = ((answered_otherwise st order diag radius lambda store out).0 (ap reply_number h)).0
+    none_held : NoneHold (tests st order diag radius lambda store out)
+    none_held = ((answered_otherwise st order diag radius lambda store out).0 (ap reply_number h)).0
 
-    all-passed : tested st order diag radius lambda store out ≡ 0
-    all-passed = (passed_iff (tests st order diag radius lambda store out) refl).1 none-held
+    all_passed : tested st order diag radius lambda store out ≡ 0
+    all_passed = (passed_iff (tests st order diag radius lambda store out) refl).1 none_held
 
-    is-ready : Ready st store order
-    is-ready = ready st store order diag radius lambda out refl all-passed
+    is_ready : Ready st store order
+    is_ready = ready st store order diag radius lambda out refl all_passed
 
-    the-answer : (b : Answer) × ((answer_of problem-asked lambda ≡ answered b) × ((b.0 ≡ a.0) × ((call st order diag radius lambda store out).out ≡ written b.1 out)))
-    the-answer =
-        let e = passed_is st order diag radius lambda store out all-passed in
-        let r = searched-answers st (lay (emptied room)) out (ranges_of (measured_by problem-asked lambda)) (answer_of problem-asked lambda) a (ap (λ (x : Ended Flagged). x.reply) (sym e) ∙ h) in
+    the_answer : (b : Answer) × ((answer_of problem_asked lambda ≡ answered b) × ((b.0 ≡ a.0) × ((call st order diag radius lambda store out).out ≡ written b.1 out)))
+    the_answer =
+        let e = passed_is st order diag radius lambda store out all_passed in
+        let r = searched-answers st (lay (emptied room)) out (ranges_of (measured_by problem_asked lambda)) (answer_of problem_asked lambda) a (ap (λ (x : Ended Flagged). x.reply) (sym e) ∙ h) in
         (r.0, (r.1.0, (r.1.1.0, ap (λ (x : Ended Flagged). x.out) e ∙ r.1.1.1)))
 
     abbrev step : List Float
-    step = the-answer.0.1
+    step = the_answer.0.1
 
-    rules : Answered problem-asked (run_of problem-asked lambda) (a.0, step)
+    rules : Answered problem_asked (run_of problem_asked lambda) (a.0, step)
     rules =
-        let n = none-held in
-        subst (λ (x : LMParameter). Answered problem-asked (run_of problem-asked lambda) (x, step)) the-answer.1.1.0
-        (answered-rules problem-asked (not-false (is_finite radius) n.1.1.1.1.1.0) n.1.1.1.1.1.1.1.0 lambda n.1.1.1.1.1.1.1.1.0 the-answer.0 the-answer.1.0)
+        let n = none_held in
+        subst (λ (x : LMParameter). Answered problem_asked (run_of problem_asked lambda) (x, step)) the_answer.1.1.0
+        (answered_rules problem_asked (not-false (is_finite radius) n.1.1.1.1.1.0) n.1.1.1.1.1.1.1.0 lambda n.1.1.1.1.1.1.1.1.0 the_answer.0 the_answer.1.0)
 
     step_long : length step ≡ st.n
     step_long = by rules.by_rule
       where
         z : Shaped st.n room
-        z = shaped st store order is-ready
+        z = shaped st store order is_ready
 
-        by : Undamped problem-asked (run_of problem-asked lambda) (a.0, step) ⊎ Damped problem-asked (run_of problem-asked lambda) (a.0, step) → length step ≡ st.n
-        by (inl u) = ap length u.step_is ∙ undamped-long st order diag radius room z (order_long st store order is-ready)
-        by (inr d) = ap length d.step_is ∙ damped-long st order diag radius room z (order_long st store order is-ready) a.0.lambda
+        by : Undamped problem_asked (run_of problem_asked lambda) (a.0, step) ⊎ Damped problem_asked (run_of problem_asked lambda) (a.0, step) → length step ≡ st.n
+        by (inl u) = ap length u.step_is ∙ undamped_long st order diag radius room z (order_long st store order is_ready)
+        by (inr d) = ap length d.step_is ∙ damped_long st order diag radius room z (order_long st store order is_ready) a.0.lambda
 
     written_step : (search_call st order diag radius lambda store out).out ≡ written step out
-    written_step = the-answer.1.1.1
+    written_step = the_answer.1.1.1
 
-    step-read : take st.n (search_call st order diag radius lambda store out).out ≡ step
-    step-read = ap (take st.n) written_step ∙ take_at step (drop (length step) out) st.n step_long
+    step_read : take st.n (search_call st order diag radius lambda store out).out ≡ step
+    step_read = ap (take st.n) written_step ∙ take_at step (drop (length step) out) st.n step_long
 
     -- LAW: the surplus of the output is as it was
-    pub surplus-kept : drop st.n (search_call st order diag radius lambda store out).out ≡ drop st.n out
-    surplus-kept = ap (drop st.n) written_step ∙ drop_at step (drop (length step) out) st.n step_long ∙ ap (λ (k : ℕ). drop k out) step_long
+    pub surplus_kept : drop st.n (search_call st order diag radius lambda store out).out ≡ drop st.n out
+    surplus_kept = ap (drop st.n) written_step ∙ drop_at step (drop (length step) out) st.n step_long ∙ ap (λ (k : ℕ). drop k out) step_long
 
     -- LAW: an output with a number for each column is written whole
-    pub out-length : length out ≡ st.n → length (search_call st order diag radius lambda store out).out ≡ st.n
-    out-length l =
+    pub out_length : length out ≡ st.n → length (search_call st order diag radius lambda store out).out ≡ st.n
+    out_length l =
         let a = step_long in
         let b = length-append step (drop (length step) out) in
         let d = length-drop (length step) out in
         ap length written_step ∙ omega arith
 
     -- LAW: the norm is that of scaling times step, and finite
-    pub norm-of-step : a.0.dp_norm ≡ norm (product_all (take st.n (search_call st order diag radius lambda store out).out) (take st.n diag))
-    norm-of-step = rules.norm_is ∙ ap (λ (x : List Float). norm (product_all x (take st.n diag))) (sym step-read)
+    pub norm_of_step : a.0.dp_norm ≡ norm (product_all (take st.n (search_call st order diag radius lambda store out).out) (take st.n diag))
+    norm_of_step = rules.norm_is ∙ ap (λ (x : List Float). norm (product_all x (take st.n diag))) (sym step_read)
 
     pub norm_finite : is_finite a.0.dp_norm ≡ true
     norm_finite = rules.norm_finite
 
     -- LAW: every entry of the step is finite
-    pub step-finite : all_finite (take st.n (search_call st order diag radius lambda store out).out) ≡ true
-    step-finite =
-        let dl = length-take-le st.n diag (diag_long st store order diag radius lambda out refl all-passed) in
-        rw step-read (finite_all step (λ i l. norm_products (take st.n diag) step (step_long ∙ sym dl) (rw rules.norm_is at norm_finite) i l))
+    pub step_finite : all_finite (take st.n (search_call st order diag radius lambda store out).out) ≡ true
+    step_finite =
+        let dl = length-take-le st.n diag (diag_long st store order diag radius lambda out refl all_passed) in
+        rw step_read (finite_all step (λ i l. norm_products (take st.n diag) step (step_long ∙ sym dl) (rw rules.norm_is at norm_finite) i l))
 
     -- LAW: and lambda is finite and not below zero
     pub lambda_finite : is_finite a.0.lambda ≡ true
     lambda_finite = rules.lambda_finite
 
     abbrev Zero : Type 0
-    Zero = Undamped problem-asked (run_of problem-asked lambda) (a.0, step)
+    Zero = Undamped problem_asked (run_of problem_asked lambda) (a.0, step)
 
     abbrev Above : Type 0
-    Above = Damped problem-asked (run_of problem-asked lambda) (a.0, step)
+    Above = Damped problem_asked (run_of problem_asked lambda) (a.0, step)
 
     by_rule : {X : Type 0} → (Zero → X) → (Above → X) → X
     by_rule {X} f g = by rules.by_rule
@@ -163,17 +163,17 @@ module _ (st : State) (order : List ℕ) (diag : List Float) (radius lambda : Fl
         by (inl u) = f u
         by (inr d) = g d
 
-    zero-not-above : lt plus_zero plus_zero ≡ false
+    zero-not_above : lt plus_zero plus_zero ≡ false
     unfolding lt
-    zero-not-above = refl
+    zero-not_above = refl
 
     pub lambda_not_below : lt a.0.lambda plus_zero ≡ false
-    lambda_not_below = by_rule (λ u. rw u.lambda_zero zero-not-above) (λ d. above_not_below a.0.lambda d.lambda_above)
+    lambda_not_below = by_rule (λ u. rw u.lambda_zero zero-not_above) (λ d. above_not_below a.0.lambda d.lambda_above)
 
     -- LAW: lambda is zero exactly when the overshoot is at most the computed tenth of the radius; then there is no trial
-    pub lambda-rule : (a.0.lambda ≡ plus_zero) ↔ (le overshoot (band radius) ≡ true)
-    lambda-rule = (
-      λ e. by_rule (λ u. u.taken) (λ d. absurd (true≢false (sym d.lambda_above ∙ ap (λ (x : Float). lt plus_zero x) e ∙ zero-not-above))),
+    pub lambda_rule : (a.0.lambda ≡ plus_zero) ↔ (le overshoot (band radius) ≡ true)
+    lambda_rule = (
+      λ e. by_rule (λ u. u.taken) (λ d. absurd (true≢false (sym d.lambda_above ∙ ap (λ (x : Float). lt plus_zero x) e ∙ zero-not_above))),
       λ w. by_rule (λ u. u.lambda_zero) (λ d. absurd (true≢false (sym w ∙ d.not_taken))),
     )
 
@@ -181,30 +181,30 @@ module _ (st : State) (order : List ℕ) (diag : List Float) (radius lambda : Fl
     no_trial w = by_rule (λ u. u.no_trial) (λ d. absurd (true≢false (sym w ∙ d.not_taken)))
 
     -- LAW: otherwise lambda is above zero after one to ten trials, and fewer than ten only for a stop rule
-    abbrev by-stop-rule : Type 0
-    by-stop-rule = (ends st order diag radius lambda store out ≡ inl within) ⊎ (ends st order diag radius lambda store out ≡ inl falling)
+    abbrev by_stop_rule : Type 0
+    by_stop_rule = (ends st order diag radius lambda store out ≡ inl within) ⊎ (ends st order diag radius lambda store out ≡ inl falling)
 
-    pub trial-rule : le overshoot (band radius) ≡ false
-        → (lt plus_zero a.0.lambda ≡ true) × ((1 ≤ a.0.trials) × ((a.0.trials ≤ 10) × (a.0.trials < 10 → by-stop-rule)))
-    trial-rule w = by_rule (λ u. absurd (true≢false (sym u.taken ∙ w))) (λ d. by d.lambda_above d.rule d.stopped_by d.counted)
+    pub trial_rule : le overshoot (band radius) ≡ false
+        → (lt plus_zero a.0.lambda ≡ true) × ((1 ≤ a.0.trials) × ((a.0.trials ≤ 10) × (a.0.trials < 10 → by_stop_rule)))
+    trial_rule w = by_rule (λ u. absurd (true≢false (sym u.taken ∙ w))) (λ d. by d.lambda_above d.rule d.stopped_by d.counted)
       where
         by : lt plus_zero a.0.lambda ≡ true → (x : Stop) → ends st order diag radius lambda store out ≡ inl x → Counted 9 a.0.trials x
-            → (lt plus_zero a.0.lambda ≡ true) × ((1 ≤ a.0.trials) × ((a.0.trials ≤ 10) × (a.0.trials < 10 → by-stop-rule)))
+            → (lt plus_zero a.0.lambda ≡ true) × ((1 ≤ a.0.trials) × ((a.0.trials ≤ 10) × (a.0.trials < 10 → by_stop_rule)))
         by l undamped e c = absurd c
         by l ten e c = (l, (omega arith, (omega arith, λ f. absurd (omega arith))))
         by l within e c = (l, (c.0, (omega (arith, c.1), λ f. inl e)))
         by l falling e c = (l, (c.0, (omega (arith, c.1), λ f. inr e)))
 
-    pub trials-few : a.0.trials ≤ 10
-    trials-few = by (le overshoot (band radius)) refl
+    pub trials_few : a.0.trials ≤ 10
+    trials_few = by (le overshoot (band radius)) refl
       where
         by : (b : Bool) → le overshoot (band radius) ≡ b → a.0.trials ≤ 10
         by true e = let z = no_trial e in omega arith
-        by false e = (trial-rule e).1.1.0
+        by false e = (trial_rule e).1.1.0
 
     -- LAW: the last of them takes two trials at least
-    pub falling-later : ends st order diag radius lambda store out ≡ inl falling → 2 ≤ a.0.trials
-    falling-later e = subst (λ (k : ℕ). 2 ≤ k) (sym rules.counts) (falling_not_first problem-asked lambda e)
+    pub falling_later : ends st order diag radius lambda store out ≡ inl falling → 2 ≤ a.0.trials
+    falling_later e = subst (λ (k : ℕ). 2 ≤ k) (sym rules.counts) (falling_not_first problem_asked lambda e)
 
     -- LAW: by the first of them the scaled norm is within a tenth of the radius of it
     pub within-band : ends st order diag radius lambda store out ≡ inl within → le (abs_of (sub binary64 a.0.dp_norm radius)) (band radius) ≡ true

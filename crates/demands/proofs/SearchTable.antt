@@ -18,7 +18,7 @@ use Rattle.leaves.specs.Reply.{Reply, answered, refused}
 use Rattle.factor.specs.State.{is_empty, with_held, store_need}
 use Rattle.leaves.specs.Tests.{outside, Test, first_of, none_zero}
 use Rattle.factor.specs.Room.{load, lay, emptied}
-use Rattle.factor.specs.Tests.{order_test, finite_test, finite_number, not_above, below}
+use Rattle.factor.specs.Tests.{order_test, finite_test, finite_not_nan, not_above, below}
 use Rattle.factor.specs.Outcome.{Ended, ended}
 use Rattle.demands.specs.Calls.{reply_number}
 use Rattle.factor.specs.declared.state.State.{State}
@@ -29,7 +29,7 @@ use Rattle.search.specs.Run.{Run, Stop, Place, stopped, last, trial, run_of}
 use Rattle.search.specs.Run as run
 use Rattle.search.specs.Search.{Flagged, Answer, concluded, answer_of, problem_of, search_tests, searched, search_call}
 use Rattle.search.specs.Ending.{ending}
-use Rattle.search.proofs.Calling.{call-is-refused}
+use Rattle.search.proofs.Calling.{call_is_refused}
 use Rattle.leaves.specs.Refusing.{NoneHold, RefusedBy}
 use Rattle.demands.proofs.TestNumbers.{first_small}
 
@@ -89,19 +89,19 @@ module _ (st : State) (order : List ℕ) (diag : List Float) (radius lambda : Fl
   unfolding search_call
   passed_is e = sym (call-worked _ (λ k. ended (refused k) st store out) _ e)
 
-  pub refused-is : (tested ≡ 0 → ⊥) → call ≡ ended (refused tested) st store out
-  refused-is h = sym (call-is-refused st store order diag radius lambda out refl h)
+  pub refused_is : (tested ≡ 0 → ⊥) → call ≡ ended (refused tested) st store out
+  refused_is h = sym (call_is_refused st store order diag radius lambda out refl h)
 
   -- ---- its number
-  answer-number : reply_number (answer_of asked lambda) ≡ end_number ends
+  answer_number : reply_number (answer_of asked lambda) ≡ end_number ends
   unfolding answer_of
-  answer-number = concluded_number 0 _ (run_of asked lambda)
+  answer_number = concluded_number 0 _ (run_of asked lambda)
 
-  passed-number : tested ≡ 0 → given ≡ end_number ends
-  passed-number e = ap (λ (x : Ended Flagged). reply_number x.reply) (passed_is e) ∙ searched_number st _ out _ (answer_of asked lambda) ∙ answer-number
+  passed_number : tested ≡ 0 → given ≡ end_number ends
+  passed_number e = ap (λ (x : Ended Flagged). reply_number x.reply) (passed_is e) ∙ searched_number st _ out _ (answer_of asked lambda) ∙ answer_number
 
-  stopped-number : (tested ≡ 0 → ⊥) → given ≡ tested
-  stopped-number h = ap (λ (x : Ended Flagged). reply_number x.reply) (refused-is h)
+  stopped_number : (tested ≡ 0 → ⊥) → given ≡ tested
+  stopped_number h = ap (λ (x : Ended Flagged). reply_number x.reply) (refused_is h)
 
   tested_small : tested < 8
   tested_small = first_small tests refl
@@ -110,46 +110,46 @@ module _ (st : State) (order : List ℕ) (diag : List Float) (radius lambda : Fl
   by_number P p q = by (eqb tested 0) refl
     where
       by : (b : Bool) → eqb tested 0 ≡ b → P given
-      by true e = let z = eqb-true tested 0 e in subst P (sym (passed-number z)) (p z)
-      by false e = let z = eqb-false tested 0 e in subst P (sym (stopped-number z)) (q z)
+      by true e = let z = eqb-true tested 0 e in subst P (sym (passed_number z)) (p z)
+      by false e = let z = eqb-false tested 0 e in subst P (sym (stopped_number z)) (q z)
 
   none_met : tested ≡ 0 → NoneHold tests
   none_met e = (passed_iff tests refl).0 e
 
-  met-none : NoneHold tests → tested ≡ 0
-  met-none h = (passed_iff tests refl).1 h
+  met_none : NoneHold tests → tested ≡ 0
+  met_none h = (passed_iff tests refl).1 h
 
   -- LAW: 2 to 7, in the order of the tests
   pub refused_early : (k : ℕ) → 0 < k → k < 8 → (given ≡ k) ↔ RefusedBy tests k
   refused_early k p q = (
     by_number (λ (g : ℕ). g ≡ k → RefusedBy tests k) (λ z e. absurd (end-zero ends k p q e)) (λ h e. (refused_iff tests k p).0 e),
-    λ r. let e = (refused_iff tests k p).1 r in stopped-number (λ z. let j = sym e ∙ z in omega arith) ∙ e,
+    λ r. let e = (refused_iff tests k p).1 r in stopped_number (λ z. let j = sym e ∙ z in omega arith) ∙ e,
   )
 
   -- LAW: and then everything is as it came
   pub refused_whole : (k : ℕ) → 0 < k → RefusedBy tests k → call ≡ ended (refused k) st store out
   refused_whole k p r =
       let e = (refused_iff tests k p).1 r in
-      refused-is (λ z. let j = sym e ∙ z in omega arith) ∙ ap (λ (i : ℕ). ended (refused i) st store out) e
+      refused_is (λ z. let j = sym e ∙ z in omega arith) ∙ ap (λ (i : ℕ). ended (refused i) st store out) e
 
   -- LAW: 8
   pub refused_eight : (given ≡ 8) ↔ (NoneHold tests × ((p : Place) × (ends ≡ inr p)))
   refused_eight = (
     by_number (λ (g : ℕ). g ≡ 8 → NoneHold tests × ((p : Place) × (ends ≡ inr p))) (λ z e. (none_met z, by_place ends e)) (λ h e. let j = tested_small in absurd (omega arith)),
-    λ w. passed-number (met-none w.0) ∙ ap end_number w.1.1,
+    λ w. passed_number (met_none w.0) ∙ ap end_number w.1.1,
   )
 
   -- LAW: and then the store is emptied, held nothing, the output as it came
   pub eight_whole : given ≡ 8 → call ≡ ended (refused 8) (with_held st held.Nothing) (lay (emptied (load st.n store))) out
   eight_whole h =
       let w = refused_eight.0 h in
-      passed_is (met-none w.0) ∙ refused-searched st _ out _ (answer_of asked lambda) (answer-number ∙ ap end_number w.1.1)
+      passed_is (met_none w.0) ∙ refused-searched st _ out _ (answer_of asked lambda) (answer_number ∙ ap end_number w.1.1)
 
   -- LAW: answered
   pub answered_otherwise : (given ≡ 0) ↔ (NoneHold tests × ((s : Stop) × (ends ≡ inl s)))
   answered_otherwise = (
     by_number (λ (g : ℕ). g ≡ 0 → NoneHold tests × ((s : Stop) × (ends ≡ inl s))) (λ z e. (none_met z, by_stop ends e)) (λ h e. absurd (h e)),
-    λ w. passed-number (met-none w.0) ∙ ap end_number w.1.1,
+    λ w. passed_number (met_none w.0) ∙ ap end_number w.1.1,
   )
 
   abbrev after_first : List Test
@@ -158,8 +158,8 @@ module _ (st : State) (order : List ℕ) (diag : List Float) (radius lambda : Fl
       ∷ (ltb (length store) (store_need st.n) || ltb (min (length order) (min (length diag) (length out))) st.n, 3)
       ∷ order_test st order
       ∷ finite_test st diag
-      ∷ finite_number radius
-      ∷ finite_number lambda
+      ∷ finite_not_nan radius
+      ∷ finite_not_nan lambda
       ∷ (not_above radius, 7)
       ∷ (below lambda, 7)
       ∷ (not (none_zero (take st.n diag)), 7)

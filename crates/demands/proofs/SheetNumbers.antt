@@ -63,27 +63,27 @@ Asked n (search diag radius lambda) = Sought n diag radius lambda
 Asked n (start x bound) = Started n x bound
 
 module _ (n : ℕ) (xs : List Float) (f : all_finite xs ≡ true) where
-  front-twice : take n (take n xs) ≡ take n xs
-  front-twice = take-take n n xs (le_refl n)
+  front_twice : take n (take n xs) ≡ take n xs
+  front_twice = take-take n n xs (le_refl n)
 
-  front-finite : all_finite (take n (take n xs)) ≡ true
-  front-finite = finite_front n (take n xs) (finite_front n xs f)
+  front_finite : all_finite (take n (take n xs)) ≡ true
+  front_finite = finite_front n (take n xs) (finite_front n xs f)
 
   by_search_lem : n + 2 ≤ length xs → (let t = search (take n xs) (get_or xs n nan) (get_or xs (n + 1) nan) in NoneHold (task_tests t) → Asked n t)
   by_search_lem l h = record {
     diag_long = let e = length-take-le n xs (omega arith) in omega arith;
-    diag_finite = front-finite;
+    diag_finite = front_finite;
     radius_finite = finite_entry xs f n (omega arith);
     lambda_finite = finite_entry xs f (n + 1) (omega arith);
     radius_above = h.0;
     lambda_not_below = h.1.0;
-    diag_nonzero = rw front-twice (not-false (none_zero (take n xs)) h.1.1.0);
+    diag_nonzero = rw front_twice (not-false (none_zero (take n xs)) h.1.1.0);
   }
 
-  by-start : n + 1 ≤ length xs → (let t = start (take n xs) (get_or xs n nan) in NoneHold (task_tests t) → Asked n t)
-  by-start l h = record {
+  by_start : n + 1 ≤ length xs → (let t = start (take n xs) (get_or xs n nan) in NoneHold (task_tests t) → Asked n t)
+  by_start l h = record {
     x_long = let e = length-take-le n xs (omega arith) in omega arith;
-    x_finite = front-finite;
+    x_finite = front_finite;
     bound_finite = finite_entry xs f n (omega arith);
     bound_above = h.0;
   }
@@ -91,12 +91,12 @@ module _ (n : ℕ) (xs : List Float) (f : all_finite xs ≡ true) where
   task-asked : (call : ℕ) → n + lasts call ≤ length xs → NoneHold (task_tests (task_of call n xs)) → Asked n (task_of call n xs)
   task-asked call l h = by (eqb call 1) refl
     where
-      of-task : {t : Task} → t ≡ task_of call n xs → (NoneHold (task_tests t) → Asked n t) → Asked n (task_of call n xs)
-      of-task e g = subst (Asked n) e (g (subst (λ (u : Task). NoneHold (task_tests u)) (sym e) h))
+      of_task : {t : Task} → t ≡ task_of call n xs → (NoneHold (task_tests t) → Asked n t) → Asked n (task_of call n xs)
+      of_task e g = subst (Asked n) e (g (subst (λ (u : Task). NoneHold (task_tests u)) (sym e) h))
 
       by : (b : Bool) → eqb call 1 ≡ b → Asked n (task_of call n xs)
-      by true e = let c = eqb-true call 1 e in of-task (search-task call n xs c) (by_search_lem (search_ends call n xs l c))
-      by false e = let c = eqb-false call 1 e in of-task (start-task call n xs c) (by-start (start_ends call n xs l c))
+      by true e = let c = eqb-true call 1 e in of_task (search-task call n xs c) (by_search_lem (search_ends call n xs l c))
+      by false e = let c = eqb-false call 1 e in of_task (start-task call n xs c) (by_start (start_ends call n xs l c))
 
 -- ---- the whole job, and the lent step
 pub record Workable (j : Job) (room : ℕ) : Type 0 where
@@ -112,9 +112,9 @@ module _ (h : Head) (xs : List Float) (e : length xs ≡ count_of h) (f : all_fi
   abbrev rest : List Float
   rest = drop (h.m * h.n) xs
 
-  job-workable : (room : ℕ) → Inside h.m h.n → h.n ≤ room → NoneHold (task_tests (job_of h xs).task) → Workable (job_of h xs) room
+  job_workable : (room : ℕ) → Inside h.m h.n → h.n ≤ room → NoneHold (task_tests (job_of h xs).task) → Workable (job_of h xs) room
   unfolding job_of count_of
-  job-workable room i r t =
+  job_workable room i r t =
       let d = length-drop (h.m * h.n) xs in
       let g = length-drop h.m rest in
       let b = finite_back (h.m * h.n) xs f in
@@ -136,5 +136,5 @@ unfolding sheet_tests
 sheet_workable s room h =
     let d = head_of s in
     let l = neither (not (eqb (length s) (length_of d))) (ltb room d.n) h.1.1.1.0 in
-    job-workable d (numbers_of d s) (doubles_long (count_of d) (drop 3 s)) (not-false (all_finite (numbers_of d s)) h.1.1.1.1.0) room
+    job_workable d (numbers_of d s) (doubles_long (count_of d) (drop 3 s)) (not-false (all_finite (numbers_of d s)) h.1.1.1.1.0) room
     (inside d.m d.n h.1.1.0) (ltb-false room d.n l.1) h.1.1.1.1.1

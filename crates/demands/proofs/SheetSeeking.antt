@@ -118,27 +118,27 @@ module _ (st : State) (order : List ℕ) (step : List Float) where
   abbrev Lent : List Float → Type 0
   Lent store = Ordered st (length store) order (length step)
 
-  lent-on : (store store' : List Float) → length store' ≡ length store → Lent store → Lent store'
-  lent-on store store' e o = subst (λ (k : ℕ). Ordered st k order (length step)) (sym e) o
+  lent_on : (store store' : List Float) → length store' ≡ length store → Lent store → Lent store'
+  lent_on store store' e o = subst (λ (k : ℕ). Ordered st k order (length step)) (sym e) o
 
   module _ (store diag : List Float) (radius lambda : Float) (o : Lent store) (a : Sought st.n diag radius lambda) where
-    search-free : NoneHold (search_tests st (length store) order diag radius lambda (length step))
-    search-free =
+    search_free : NoneHold (search_tests st (length store) order diag radius lambda (length step))
+    search_free =
         let p = o.room in
         let l : st.n ≤ min (length order) (min (length diag) (length step)) = omega (arith, o.order_long, a.diag_long, p.each_long) in
         let r = room_free st (length store) _ (shorter st (length store) (length step) _ p l) in
         (r.0, (r.1.0, (r.1.1.0, (rw o.permuted, (rw a.diag_finite, (rw a.radius_finite, (rw a.lambda_finite, (a.radius_above, (a.lambda_not_below, (rw a.diag_nonzero, tt))))))))))
 
-    searched-ends : (n d : ℕ) → (let e = search_call st order diag radius lambda store step in Ends step (by_search n d e.reply e.out))
-    searched-ends n d = by (table.ends st order diag radius lambda store step) refl
+    searched_ends : (n d : ℕ) → (let e = search_call st order diag radius lambda store step in Ends step (by_search n d e.reply e.out))
+    searched_ends n d = by (table.ends st order diag radius lambda store step) refl
       where
         e : Ended Flagged
         e = search_call st order diag radius lambda store step
 
         by : (x : Stop ⊎ Place) → table.ends st order diag radius lambda store step ≡ x → Ends step (by_search n d e.reply e.out)
-        by (inl x) h = search_ends n d e.reply e.out step (inl ((table.answered_otherwise st order diag radius lambda store step).1 (search-free, (x, h))))
+        by (inl x) h = search_ends n d e.reply e.out step (inl ((table.answered_otherwise st order diag radius lambda store step).1 (search_free, (x, h))))
         by (inr x) h =
-            let w = table.eight_whole st order diag radius lambda store step ((table.refused_eight st order diag radius lambda store step).1 (search-free, (x, h))) in
+            let w = table.eight_whole st order diag radius lambda store step ((table.refused_eight st order diag radius lambda store step).1 (search_free, (x, h))) in
             search_ends n d e.reply e.out step (inr (ap (λ (z : Ended Flagged). z.reply) w, ap (λ (z : Ended Flagged). z.out) w))
 
   module _ (store : List Float) (o : Lent store) where
@@ -152,21 +152,21 @@ module _ (st : State) (order : List ℕ) (step : List Float) where
     unfolding basic.perform_store
     determined-lasts = (laws basic.determined).lasts st order store
 
-    sought-ends : (diag : List Float) (radius lambda : Float) → Sought st.n diag radius lambda → Ends step (sought_from st order diag radius lambda store step)
+    sought_ends : (diag : List Float) (radius lambda : Float) → Sought st.n diag radius lambda → Ends step (sought_from st order diag radius lambda store step)
     unfolding sought_from
-    sought-ends diag radius lambda a =
+    sought_ends diag radius lambda a =
         let s = (determined_call st store).store in
         let e = search_call st order diag radius lambda s step in
         let d = determined_of st.m (load st.n store).upper in
         subst (λ (x : Reply ℕ). Ends step (by_determined st.n x e step)) (sym (ap (λ (x : outcome.Told ℕ). x.reply) determined_is))
-        (searched-ends s diag radius lambda (lent-on store s determined-lasts o) a st.n d)
+        (searched_ends s diag radius lambda (lent_on store s determined-lasts o) a st.n d)
 
   -- ---- call 2
   module _ (store : List Float) (o : Lent store) where
     module _ (x : List Float) (bound : Float) (a : Started st.n x bound) where
-      scaling-free : NoneHold (scaling_tests st mode.FirstScaled (length store) (zeros 16) x bound)
+      scaling_free : NoneHold (scaling_tests st mode.FirstScaled (length store) (zeros 16) x bound)
       unfolding scaling_tests
-      scaling-free =
+      scaling_free =
           let p = o.room in
           let z : length (zeros 16) ≡ 16 = length-replicate 16 plus_zero in
           let l : st.n ≤ min (length (zeros 16)) (length x) = omega (arith, p.sizes.cols_few, a.x_long) in
@@ -176,14 +176,14 @@ module _ (st : State) (order : List ℕ) (step : List Float) where
       abbrev given : Reply Scaled × List Float
       given = rescaled mode.FirstScaled st.n (load st.n store).norms (zeros 16) x bound
 
-      scaling-is : scaling_call st mode.FirstScaled (zeros 16) x bound store ≡ ended given.0 st (lay (rested (load st.n store))) given.1
+      scaling_is : scaling_call st mode.FirstScaled (zeros 16) x bound store ≡ ended given.0 st (lay (rested (load st.n store))) given.1
       unfolding scaling_call scaling_tests
-      scaling-is =
-          sym (call-worked _ (λ k. ended (refused k) st store (zeros 16)) _ ((passed_iff (scaling_tests st mode.FirstScaled (length store) (zeros 16) x bound) refl).1 scaling-free))
+      scaling_is =
+          sym (call-worked _ (λ k. ended (refused k) st store (zeros 16)) _ ((passed_iff (scaling_tests st mode.FirstScaled (length store) (zeros 16) x bound) refl).1 scaling_free))
 
-      scaling-lasts : length (lay (rested (load st.n store))) ≡ length store
+      scaling_lasts : length (lay (rested (load st.n store))) ≡ length store
       unfolding basic.perform_store
-      scaling-lasts = ap (λ (e : Ended Scaled). length e.store) (sym scaling-is) ∙ (laws (basic.scaling mode.FirstScaled (zeros 16) x bound)).lasts st order store
+      scaling_lasts = ap (λ (e : Ended Scaled). length e.store) (sym scaling_is) ∙ (laws (basic.scaling mode.FirstScaled (zeros 16) x bound)).lasts st order store
 
       abbrev entries : List Float
       entries = first_scaling (load st.n store).norms
@@ -191,9 +191,9 @@ module _ (st : State) (order : List ℕ) (step : List Float) where
       abbrev begins : Start
       begins = start_by bound (norm (product_all entries (take st.n x)))
 
-      entries-long : length entries ≡ st.n
+      entries_long : length entries ≡ st.n
       unfolding first_scaling
-      entries-long = length-map (load st.n store).norms _ ∙ (load_shaped st.n store (passed_sized st store (length step) o.room)).norms_long
+      entries_long = length-map (load st.n store).norms _ ∙ (load_shaped st.n store (passed_sized st store (length step) o.room)).norms_long
 
       -- what a first scaling leaves is what a search accepts
       scaled-asked : all_finite entries ≡ true → usable begins ≡ true → Sought st.n (written entries (zeros 16)) begins.radius plus_zero
@@ -201,9 +201,9 @@ module _ (st : State) (order : List ℕ) (step : List Float) where
       scaled-asked f u =
           let w = (and-eq-true_iff (is_finite begins.xnorm && is_finite begins.radius) (not (eq begins.radius plus_zero))).0 u in
           let v = (and-eq-true_iff (is_finite begins.xnorm) (is_finite begins.radius)).0 w.0 in
-          let e : take st.n (written entries (zeros 16)) ≡ entries = take_at entries (drop (length entries) (zeros 16)) st.n entries-long in
+          let e : take st.n (written entries (zeros 16)) ≡ entries = take_at entries (drop (length entries) (zeros 16)) st.n entries_long in
           record {
-            diag_long = omega (arith, length-append entries (drop (length entries) (zeros 16)), entries-long);
+            diag_long = omega (arith, length-append entries (drop (length entries) (zeros 16)), entries_long);
             diag_finite = rw e f;
             radius_finite = v.1;
             lambda_finite = refl;
@@ -212,21 +212,21 @@ module _ (st : State) (order : List ℕ) (step : List Float) where
             diag_nonzero = rw e (scaling_nonzero (load st.n store).norms);
           }
 
-      rescaled-ends : (b : Bool) → (all_finite entries && usable begins) ≡ b
+      rescaled_ends : (b : Bool) → (all_finite entries && usable begins) ≡ b
           → (let g = or_refused b (first begins (ranges (product_all entries (take st.n x)))) (written entries (zeros 16)) (zeros 16) in Ends step (by_scaling st order g.0 g.1 (lay (rested (load st.n store))) step))
-      rescaled-ends true e =
+      rescaled_ends true e =
           let w = (and-eq-true_iff (all_finite entries) (usable begins)).0 e in
           let s = lay (rested (load st.n store)) in
-          mapped_ends (started begins.radius) step _ (sought-ends s (lent-on store s scaling-lasts o) (written entries (zeros 16)) begins.radius plus_zero (scaled-asked w.0 w.1))
-      rescaled-ends false e = inr refl
+          mapped_ends (started begins.radius) step _ (sought_ends s (lent_on store s scaling_lasts o) (written entries (zeros 16)) begins.radius plus_zero (scaled-asked w.0 w.1))
+      rescaled_ends false e = inr refl
 
-      started-ends : Ends step (started_from st order x bound store step)
+      started_ends : Ends step (started_from st order x bound store step)
       unfolding started_from rescaled
-      started-ends =
-          subst (λ (e : Ended Scaled). Ends step (by_scaling st order e.reply e.out e.store step)) (sym scaling-is) (rescaled-ends (all_finite entries && usable begins) refl)
+      started_ends =
+          subst (λ (e : Ended Scaled). Ends step (by_scaling st order e.reply e.out e.store step)) (sym scaling_is) (rescaled_ends (all_finite entries && usable begins) refl)
 
     -- LAW
-    pub task-ends : (t : Task) → Asked st.n t → Ends step (task_from t st order store step)
+    pub task_ends : (t : Task) → Asked st.n t → Ends step (task_from t st order store step)
     unfolding task_from
-    task-ends (search diag radius lambda) a = mapped_ends searched step _ (sought-ends store o diag radius lambda a)
-    task-ends (start x bound) a = started-ends x bound a
+    task_ends (search diag radius lambda) a = mapped_ends searched step _ (sought_ends store o diag radius lambda a)
+    task_ends (start x bound) a = started_ends x bound a

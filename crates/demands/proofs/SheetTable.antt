@@ -18,11 +18,11 @@ use Rattle.leaves.proofs.Refusals.{refused_iff, passed_iff}
 use Rattle.sheet.specs.Sheet.{Task, search, start, head_of, job_of}
 use Rattle.sheet.specs.Tests.{task_tests, numbers_of, sheet_tests}
 use Rattle.sheet.specs.Fit.{Fit, Finished, finished, sheet_call}
-use Rattle.sheet.proofs.Refused.{all_numbered, sheet-is-refused, sheet-is-worked}
+use Rattle.sheet.proofs.Refused.{all_numbered, sheet_is_refused, sheet_is_worked}
 use Rattle.demands.specs.Calls.{reply_number}
 use Rattle.demands.proofs.SheetNumbers.{sheet_workable}
 use Rattle.demands.proofs.SheetSeeking.{Ends}
-use Rattle.demands.proofs.SheetWorking.{worked-ends}
+use Rattle.demands.proofs.SheetWorking.{worked_ends}
 use Rattle.leaves.specs.Refusing.{NoneHold, RefusedBy}
 use Rattle.demands.specs.Eight.{sheet_working}
 use Rattle.demands.proofs.TestNumbers.{every, first_of_lem}
@@ -61,9 +61,9 @@ module _ (s : List ℕ) (step : List Float) where
   abbrev pub given : ℕ
   given = reply_number call.reply
 
-  tests-listed : every known tests ≡ true
+  tests_listed : every known tests ≡ true
   unfolding sheet_tests
-  tests-listed = task_listed (job_of (head_of s) (numbers_of (head_of s) s)).task
+  tests_listed = task_listed (job_of (head_of s) (numbers_of (head_of s) s)).task
 
   number : {t : Finished Fit} {k : ℕ} → call ≡ t → given ≡ k → reply_number t.reply ≡ k
   number e h = ap (λ (t : Finished Fit). reply_number t.reply) (sym e) ∙ h
@@ -74,17 +74,17 @@ module _ (s : List ℕ) (step : List Float) where
   cases {X} p q r = by (eqb (first_of tests) 0) refl
     where
       passed : NoneHold tests → Ends step working → X
-      passed n (inl z) = p n (sym (sheet-is-worked s step n)) z
-      passed n (inr e) = q n (sym (sheet-is-worked s step n)) e
+      passed n (inl z) = p n (sym (sheet_is_worked s step n)) z
+      passed n (inr e) = q n (sym (sheet_is_worked s step n)) e
 
       by : (b : Bool) → eqb (first_of tests) 0 ≡ b → X
       by true e =
           let n = (passed_iff tests (all_numbered s step)).0 (eqb-true (first_of tests) 0 e) in
-          passed n (worked-ends (job_of (head_of s) (numbers_of (head_of s) s)) step (sheet_workable s (length step) n))
+          passed n (worked_ends (job_of (head_of s) (numbers_of (head_of s) s)) step (sheet_workable s (length step) n))
       by false e =
           let k = nonzero (first_of tests) (eqb-false (first_of tests) 0 e) in
           let t = (refused_iff tests (first_of tests) k).0 refl in
-          r (first_of tests) (known_named (first_of tests) (first_of_lem known refl tests tests-listed)) (k, t) (sym (sheet-is-refused s step (first_of tests) k t))
+          r (first_of tests) (known_named (first_of tests) (first_of_lem known refl tests tests_listed)) (k, t) (sym (sheet_is_refused s step (first_of tests) k t))
 
   -- LAW: 1 to 7, in the order of the tests
   pub refused_early : (k : ℕ) → 0 < k → k < 8 → (given ≡ k) ↔ RefusedBy tests k
@@ -92,11 +92,11 @@ module _ (s : List ℕ) (step : List Float) where
     λ h.
         cases (λ n e z. absurd (let y = number e h in omega arith)) (λ n e z. absurd (let y = number (e ∙ z) h in omega arith))
         (λ j l r e. subst (λ (i : ℕ). RefusedBy tests i) (number e h) r.1),
-    λ r. ap (λ (t : Finished Fit). reply_number t.reply) (sym (sheet-is-refused s step k p r)),
+    λ r. ap (λ (t : Finished Fit). reply_number t.reply) (sym (sheet_is_refused s step k p r)),
   )
 
   worked_number : NoneHold tests → given ≡ reply_number working.reply
-  worked_number n = ap (λ (t : Finished Fit). reply_number t.reply) (sym (sheet-is-worked s step n))
+  worked_number n = ap (λ (t : Finished Fit). reply_number t.reply) (sym (sheet_is_worked s step n))
 
   -- LAW: 8
   pub refused_eight : (given ≡ 8) ↔ (NoneHold tests × (reply_number working.reply ≡ 8))
@@ -108,8 +108,8 @@ module _ (s : List ℕ) (step : List Float) where
   )
 
   -- LAW: whatever it is refused by, the step is as it came
-  pub refused-unwritten : (k : ℕ) → 0 < k → given ≡ k → call ≡ finished (refused k) step
-  refused-unwritten k p h =
+  pub refused_unwritten : (k : ℕ) → 0 < k → given ≡ k → call ≡ finished (refused k) step
+  refused_unwritten k p h =
       cases (λ n e z. absurd (let y = number e h in omega arith)) (λ n e z. e ∙ z ∙ ap (λ (i : ℕ). finished (refused i) step) (number (e ∙ z) h))
       (λ j l r e. e ∙ ap (λ (i : ℕ). finished (refused i) step) (number e h))
 
@@ -122,9 +122,9 @@ module _ (s : List ℕ) (step : List Float) where
   )
 
   -- LAW: there is no other number, so that none is refused 4 or 5
-  pub numbers-named : (given ≤ 3) ⊎ ((6 ≤ given) × (given ≤ 8))
-  numbers-named = cases (λ n e z. as-named (worked_number n ∙ z) (inl (omega arith))) (λ n e z. as-named (ap (λ (t : Finished Fit). reply_number t.reply) (e ∙ z)) (inr (omega arith, omega arith)))
-      (λ j l r e. as-named (ap (λ (t : Finished Fit). reply_number t.reply) e) l.0)
+  pub numbers_named : (given ≤ 3) ⊎ ((6 ≤ given) × (given ≤ 8))
+  numbers_named = cases (λ n e z. as_named (worked_number n ∙ z) (inl (omega arith))) (λ n e z. as_named (ap (λ (t : Finished Fit). reply_number t.reply) (e ∙ z)) (inr (omega arith, omega arith)))
+      (λ j l r e. as_named (ap (λ (t : Finished Fit). reply_number t.reply) e) l.0)
     where
-      as-named : {k : ℕ} → given ≡ k → Named k → Named given
-      as-named e h = subst Named (sym e) h
+      as_named : {k : ℕ} → given ≡ k → Named k → Named given
+      as_named e h = subst Named (sym e) h

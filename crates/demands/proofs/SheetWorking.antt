@@ -29,7 +29,7 @@ use Rattle.sheet.specs.Fit.{task_from, by_factoring, worked_in, worked}
 use Rattle.demands.proofs.Alikes.{refactored, reordered}
 use Rattle.demands.proofs.FactoringTable as factoring
 use Rattle.demands.proofs.SheetNumbers.{Asked, Workable}
-use Rattle.demands.proofs.SheetSeeking.{Ends, task-ends}
+use Rattle.demands.proofs.SheetSeeking.{Ends, task_ends}
 use Rattle.leaves.specs.Refusing.{NoneHold}
 
 -- ---- the factoring, in rooms for the largest problem
@@ -51,8 +51,8 @@ module _ (j : Job) (step : List Float) (w : Workable j (length step)) where
   abbrev call : Factored
   call = factor_call j.m j.n j.jacobian j.residuals store order bench
 
-  factor-free : NoneHold (factor_tests j.m j.n j.jacobian j.residuals (length store) (length order) (length bench))
-  factor-free =
+  factor_free : NoneHold (factor_tests j.m j.n j.jacobian j.residuals (length store) (length order) (length bench))
+  factor_free =
       let i = w.sizes in
       let s : length store ≡ 320 = length-replicate 320 plus_zero in
       let o : length order ≡ 16 = length-replicate {A = ℕ} 16 0 in
@@ -75,23 +75,23 @@ module _ (j : Job) (step : List Float) (w : Workable j (length step)) where
   flags = ranges_of (measured j.m j.n (columns j.m j.n j.jacobian) (take j.m j.residuals))
 
   -- its two ends
-  factor-either : (call.reply ≡ answered flags) ⊎ (call.reply ≡ refused 8)
-  factor-either = by (finite_room room) refl
+  factor_either : (call.reply ≡ answered flags) ⊎ (call.reply ≡ refused 8)
+  factor_either = by (finite_room room) refl
     where
       room : Room
       room = factoring.room j.m j.n j.jacobian j.residuals store order bench
 
       by : (b : Bool) → finite_room room ≡ b → (call.reply ≡ answered flags) ⊎ (call.reply ≡ refused 8)
       by true e =
-          inl (ap (λ (f : Factored). f.reply) (factoring.answered-whole j.m j.n j.jacobian j.residuals store order bench
-          ((factoring.answered_otherwise j.m j.n j.jacobian j.residuals store order bench).1 (factor-free, e))))
+          inl (ap (λ (f : Factored). f.reply) (factoring.answered_whole j.m j.n j.jacobian j.residuals store order bench
+          ((factoring.answered_otherwise j.m j.n j.jacobian j.residuals store order bench).1 (factor_free, e))))
       by false e =
           inr (ap (λ (f : Factored). f.reply) (factoring.eight_whole j.m j.n j.jacobian j.residuals store order bench
-          ((factoring.refused_eight j.m j.n j.jacobian j.residuals store order bench).1 (factor-free, e))))
+          ((factoring.refused_eight j.m j.n j.jacobian j.residuals store order bench).1 (factor_free, e))))
 
   -- what an answered one leaves passes the tests of a solve
-  factor-ordered : call.reply ≡ answered flags → Ordered call.state (length call.store) call.order (length step)
-  factor-ordered h =
+  factor_ordered : call.reply ≡ answered flags → Ordered call.state (length call.store) call.order (length step)
+  factor_ordered h =
       let e = sym (answered-state j.m j.n j.jacobian j.residuals store order bench h) in
       let r = refactored j.m j.n j.jacobian j.residuals store store order order bench bench h h in
       let q = reordered j.m j.n j.jacobian j.residuals store store order order bench bench h h in
@@ -107,10 +107,10 @@ module _ (j : Job) (step : List Float) (w : Workable j (length step)) where
         permuted = subst (λ (s : State). is_permutation s.n call.order ≡ true) e p;
       }
 
-  factor-asked : call.reply ≡ answered flags → Asked call.state.n j.task
-  factor-asked h = subst (λ (s : State). Asked s.n j.task) (sym (answered-state j.m j.n j.jacobian j.residuals store order bench h)) w.asked
+  factor_asked : call.reply ≡ answered flags → Asked call.state.n j.task
+  factor_asked h = subst (λ (s : State). Asked s.n j.task) (sym (answered-state j.m j.n j.jacobian j.residuals store order bench h)) w.asked
 
   -- LAW: the working is answered, or refused 8 and the step as it came
-  pub worked-ends : Ends step (worked j step)
+  pub worked_ends : Ends step (worked j step)
   unfolding worked worked_in
-  worked-ends = factored_ends j.task step call flags (λ h. task-ends call.state call.order step call.store (factor-ordered h) j.task (factor-asked h)) factor-either
+  worked_ends = factored_ends j.task step call flags (λ h. task_ends call.state call.order step call.store (factor_ordered h) j.task (factor_asked h)) factor_either

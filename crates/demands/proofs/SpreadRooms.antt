@@ -75,19 +75,19 @@ module _ (n free : ℕ) (fits : free ≤ n) where
   unfolding spread
   run_laid k x w l = rw (take_at x w free l, drop_at x w free l) (sym (append_assoc x (zeros more) (spread free n k w)))
 
-  square-laid : (i p : ℕ) (us : List (List Float)) (w : List Float) → length us ≡ p → ((j : ℕ) → j < length us → length (get_or us j []) ≡ suc (i + j)) → i + p ≡ free
+  square_laid : (i p : ℕ) (us : List (List Float)) (w : List Float) → length us ≡ p → ((j : ℕ) → j < length us → length (get_or us j []) ≡ suc (i + j)) → i + p ≡ free
       → spread free n p (joined us (no_lower p) ++ w) ++ zeros (more * n) ≡ joined (wider_from i (p + more) us) (no_lower (p + more))
   unfolding spread joined no_lower wider_from
-  square-laid i zero [] w l h e = rw (zero-add more) (zeros_laid n i more (omega arith))
-  square-laid i zero (u ∷ us) w l h e = absurd (omega arith)
-  square-laid i (suc p) [] w l h e = absurd (omega arith)
-  square-laid i (suc p) (u ∷ us) w l h e =
+  square_laid i zero [] w l h e = rw (zero-add more) (zeros_laid n i more (omega arith))
+  square_laid i zero (u ∷ us) w l h e = absurd (omega arith)
+  square_laid i (suc p) [] w l h e = absurd (omega arith)
+  square_laid i (suc p) (u ∷ us) w l h e =
       let s : suc p + more ≡ suc (p + more) = omega arith in
       let below = joined us (no_lower p) in
       let first = h 0 (omega arith) in
       let z : length (zeros p) ≡ p = length-replicate p plus_zero in
       let c : length (u ++ zeros p) ≡ free = length-append u (zeros p) ∙ omega arith in
-      let r = square-laid (suc i) p us w (omega arith) (λ j q. h (suc j) (omega arith) ∙ omega arith) (omega arith) in
+      let r = square_laid (suc i) p us w (omega arith) (λ j q. h (suc j) (omega arith) ∙ omega arith) (omega arith) in
       let a : spread free n (suc p) (((u ++ zeros p) ++ below) ++ w) ≡ ((u ++ zeros p) ++ zeros more) ++ spread free n p (below ++ w) =
       ap (λ (x : List Float). spread free n (suc p) x) (append_assoc (u ++ zeros p) below w) ∙ run_laid p (u ++ zeros p) (below ++ w) c in
       let b : (u ++ zeros p) ++ zeros more ≡ u ++ zeros (p + more) = append_assoc u (zeros p) (zeros more) ∙ ap (λ (x : List Float). u ++ x) (two-zeros p more (p + more) refl) in
@@ -98,18 +98,18 @@ module _ (n free : ℕ) (fits : free ≤ n) where
       )
 
   -- ---- the vectors
-  vectors-laid : (a b c d : List Float) → length a ≡ free → length b ≡ free → length c ≡ free → length d ≡ free
+  vectors_laid : (a b c d : List Float) → length a ≡ free → length b ≡ free → length c ≡ free → length d ≡ free
       → spread free n 4 (a ++ (b ++ (c ++ (d ++ [])))) ≡ (a ++ zeros more) ++ ((b ++ zeros more) ++ ((c ++ zeros more) ++ ((d ++ zeros more) ++ [])))
   unfolding spread
-  vectors-laid a b c d la lb lc ld =
+  vectors_laid a b c d la lb lc ld =
       run_laid 3 a (b ++ (c ++ (d ++ []))) la
       ∙ ap (λ (x : List Float). (a ++ zeros more) ++ x) (run_laid 2 b (c ++ (d ++ [])) lb
       ∙ ap (λ (x : List Float). (b ++ zeros more) ++ x) (run_laid 1 c (d ++ []) lc ∙ ap (λ (x : List Float). (c ++ zeros more) ++ x) (run_laid 0 d [] ld)))
 
   -- ---- the room
   module _ (r : Room) (shape : Shaped free r) (made : AsFactored free r) (alone : r.rest ≡ []) (rest : List Float) where
-    abbrev wideRoom : Room
-    wideRoom = record {
+    abbrev wide_room : Room
+    wide_room = record {
       upper = wider_from 0 n r.upper;
       below = no_lower n;
       qtb = r.qtb ++ zeros more;
@@ -119,20 +119,20 @@ module _ (n free : ℕ) (fits : free ≤ n) where
       rest = rest;
     }
 
-    more-long : (x : List Float) → length x ≡ free → length (x ++ zeros more) ≡ n
-    more-long x l = let z : length (zeros more) ≡ more = length-replicate more plus_zero in length-append x (zeros more) ∙ omega arith
+    more_long : (x : List Float) → length x ≡ free → length (x ++ zeros more) ≡ n
+    more_long x l = let z : length (zeros more) ≡ more = length-replicate more plus_zero in length-append x (zeros more) ∙ omega arith
 
     upper_tall : (j : ℕ) → j < length r.upper → length (get_or r.upper j []) ≡ suc (0 + j)
     upper_tall j h = let w = shape.upper_wide in shape.upper_tall j (omega arith) ∙ omega arith
 
-    wide-shaped : Shaped n wideRoom
-    wide-shaped = record {
+    wide_shaped : Shaped n wide_room
+    wide_shaped = record {
       upper_wide = wider_wide 0 n r.upper;
       upper_tall = λ j h. wider_tall 0 n r.upper upper_tall j h ∙ omega arith;
       below_wide = lower-wide n;
       below_tall = lower_tall n;
-      qtb_long = more-long r.qtb shape.qtb_long;
-      norms_long = more-long r.norms shape.norms_long;
+      qtb_long = more_long r.qtb shape.qtb_long;
+      norms_long = more_long r.norms shape.norms_long;
       ldiag_long = length-replicate n plus_zero;
       work_long = length-replicate n plus_zero;
     }
@@ -144,12 +144,12 @@ module _ (n free : ℕ) (fits : free ≤ n) where
     abbrev vectors : List Float
     vectors = r.qtb ++ (r.norms ++ (zeros free ++ (zeros free ++ [])))
 
-    reduced-laid : lay r ≡ square ++ vectors
+    reduced_laid : lay r ≡ square ++ vectors
     unfolding lay
-    reduced-laid = rw (made.below_zero, made.ldiag_zero, made.work_zero, alone)
+    reduced_laid = rw (made.below_zero, made.ldiag_zero, made.work_zero, alone)
 
-    square-long : length square ≡ free * free
-    square-long =
+    square_long : length square ≡ free * free
+    square_long =
         let w = shape.upper_wide in
         let l = lower-wide free in
         let tall : Tall free 0 r.upper (no_lower free) = record {
@@ -161,26 +161,26 @@ module _ (n free : ℕ) (fits : free ≤ n) where
         joined_long free 0 r.upper (no_lower free) tall ∙ rw w
 
     -- LAW
-    pub spread-laid : spread_out n free (lay r) ++ rest ≡ lay wideRoom
+    pub spread_laid : spread_out n free (lay r) ++ rest ≡ lay wide_room
     unfolding spread_out lay
-    spread-laid =
+    spread_laid =
         let z : length (zeros free) ≡ free = length-replicate free plus_zero in
         let e : free + more ≡ n = omega arith in
         let first : spread free n free (square ++ vectors) ++ zeros (more * n) ≡ joined (wider_from 0 n r.upper) (no_lower n) =
-        square-laid 0 free r.upper vectors shape.upper_wide upper_tall (zero-add free) ∙ ap (λ (k : ℕ). joined (wider_from 0 k r.upper) (no_lower k)) e in
+        square_laid 0 free r.upper vectors shape.upper_wide upper_tall (zero-add free) ∙ ap (λ (k : ℕ). joined (wider_from 0 k r.upper) (no_lower k)) e in
         let second : spread free n 4 (drop (free * free) (square ++ vectors)) ≡ (r.qtb ++ zeros more) ++ ((r.norms ++ zeros more) ++ (zeros n ++ (zeros n ++ []))) =
-        ap (λ (x : List Float). spread free n 4 x) (drop_at square vectors (free * free) square-long)
-        ∙ (vectors-laid r.qtb r.norms (zeros free) (zeros free) shape.qtb_long shape.norms_long z z
+        ap (λ (x : List Float). spread free n 4 x) (drop_at square vectors (free * free) square_long)
+        ∙ (vectors_laid r.qtb r.norms (zeros free) (zeros free) shape.qtb_long shape.norms_long z z
         ∙ ap (λ (x : List Float). (r.qtb ++ zeros more) ++ ((r.norms ++ zeros more) ++ (x ++ (x ++ [])))) (two-zeros free more n e)) in
-        ap (λ (x : List Float). (spread free n free x ++ (zeros (more * n) ++ spread free n 4 (drop (free * free) x))) ++ rest) reduced-laid
+        ap (λ (x : List Float). (spread free n free x ++ (zeros (more * n) ++ spread free n 4 (drop (free * free) x))) ++ rest) reduced_laid
         ∙ (ap (λ (x : List Float). x ++ rest) (sym (append_assoc (spread free n free (square ++ vectors)) (zeros (more * n)) (spread free n 4 (drop (free * free) (square ++ vectors)))))
         ∙ (ap (λ (x : List Float). (x ++ spread free n 4 (drop (free * free) (square ++ vectors))) ++ rest) first
         ∙ (ap (λ (x : List Float). (joined (wider_from 0 n r.upper) (no_lower n) ++ x) ++ rest) second ∙ simp append_assoc)))
 
     -- LAW
-    pub spread-as-factored : AsFactored n (load n (spread_out n free (lay r) ++ rest))
-    spread-as-factored =
-        let e : load n (spread_out n free (lay r) ++ rest) ≡ wideRoom = ap (λ (x : List Float). load n x) spread-laid ∙ load-lay n wideRoom wide-shaped in
+    pub spread_as_factored : AsFactored n (load n (spread_out n free (lay r) ++ rest))
+    spread_as_factored =
+        let e : load n (spread_out n free (lay r) ++ rest) ≡ wide_room = ap (λ (x : List Float). load n x) spread_laid ∙ load-lay n wide_room wide_shaped in
         let finite : (x : List Float) → all_finite x ≡ true → all_finite (x ++ zeros more) ≡ true =
         (λ x h. finite-append x (zeros more) ∙ (and-eq-true_iff (all_finite x) (all_finite (zeros more))).1 (h, zeros-finite more)) in
         rw e (record {

@@ -25,21 +25,21 @@ least-same n a b x p q = by (ltb x n) refl
     by false e = let h = ltb-false x n e in le-ltb (min a x) n (omega arith) ∙ sym (le-ltb (min b x) n (omega arith))
 
 module _ (st : State) (o p : List ℕ) (lo : st.n ≤ length o) (lp : st.n ≤ length p) (same : take st.n o ≡ take st.n p) where
-  shortest-same : (c : StoreCall) → ltb (shortest_of c st o) st.n ≡ ltb (shortest_of c st p) st.n
+  shortest_same : (c : StoreCall) → ltb (shortest_of c st o) st.n ≡ ltb (shortest_of c st p) st.n
   unfolding shortest_of
-  shortest-same (zero_solve out) = least-same st.n (length o) (length p) (length out) lo lp
-  shortest-same (damped_solve diag out) = least-same st.n (length o) (length p) (min (length diag) (length out)) lo lp
-  shortest-same (held_solve rhs out) = least-same st.n (length o) (length p) (min (length rhs) (length out)) lo lp
-  shortest-same (held_product out) = refl
-  shortest-same (gradient bnorm) = le-ltb (length o) st.n lo ∙ sym (le-ltb (length p) st.n lp)
-  shortest-same (above bnorm limit) = le-ltb (length o) st.n lo ∙ sym (le-ltb (length p) st.n lp)
-  shortest-same (jx_norm x) = least-same st.n (length o) (length p) (length x) lo lp
-  shortest-same (scaling mode.FirstScaled diag x bound) = refl
-  shortest-same (scaling mode.FirstUnscaled diag x bound) = refl
-  shortest-same (scaling mode.LaterScaled diag x bound) = refl
-  shortest-same (scaling mode.LaterUnscaled diag x bound) = refl
-  shortest-same determined = refl
-  shortest-same non_singular = refl
+  shortest_same (zero_solve out) = least-same st.n (length o) (length p) (length out) lo lp
+  shortest_same (damped_solve diag out) = least-same st.n (length o) (length p) (min (length diag) (length out)) lo lp
+  shortest_same (held_solve rhs out) = least-same st.n (length o) (length p) (min (length rhs) (length out)) lo lp
+  shortest_same (held_product out) = refl
+  shortest_same (gradient bnorm) = le-ltb (length o) st.n lo ∙ sym (le-ltb (length p) st.n lp)
+  shortest_same (above bnorm limit) = le-ltb (length o) st.n lo ∙ sym (le-ltb (length p) st.n lp)
+  shortest_same (jx_norm x) = least-same st.n (length o) (length p) (length x) lo lp
+  shortest_same (scaling mode.FirstScaled diag x bound) = refl
+  shortest_same (scaling mode.FirstUnscaled diag x bound) = refl
+  shortest_same (scaling mode.LaterScaled diag x bound) = refl
+  shortest_same (scaling mode.LaterUnscaled diag x bound) = refl
+  shortest_same determined = refl
+  shortest_same non_singular = refl
 
   further_same : (c : StoreCall) → further_of c st o ≡ further_of c st p
   unfolding further_of
@@ -57,28 +57,28 @@ module _ (st : State) (o p : List ℕ) (lo : st.n ≤ length o) (lp : st.n ≤ l
   further_same determined = refl
   further_same non_singular = refl
 
-  effect-same : (c : StoreCall) (r : Room) → effect c st o r ≡ effect c st p r
+  effect_same : (c : StoreCall) (r : Room) → effect c st o r ≡ effect c st p r
   unfolding effect
-  effect-same (zero_solve out) r = rw same
-  effect-same (damped_solve diag out) r = rw same
-  effect-same (held_solve rhs out) r = rw same
-  effect-same (held_product out) r = refl
-  effect-same (gradient bnorm) r = rw same
-  effect-same (above bnorm limit) r = rw same
-  effect-same (jx_norm x) r = rw same
-  effect-same (scaling md diag x bound) r = refl
-  effect-same determined r = refl
-  effect-same non_singular r = refl
+  effect_same (zero_solve out) r = rw same
+  effect_same (damped_solve diag out) r = rw same
+  effect_same (held_solve rhs out) r = rw same
+  effect_same (held_product out) r = refl
+  effect_same (gradient bnorm) r = rw same
+  effect_same (above bnorm limit) r = rw same
+  effect_same (jx_norm x) r = rw same
+  effect_same (scaling md diag x bound) r = refl
+  effect_same determined r = refl
+  effect_same non_singular r = refl
 
   tests_same : (c : StoreCall) (k : ℕ) → store_tests c st k o ≡ store_tests c st k p
-  tests_same c k = rw (shortest-same c, further_same c)
+  tests_same c k = rw (shortest_same c, further_same c)
 
-  abbrev told-by : StoreCall → List Float → ℕ → Effect → StoreOutcome
-  told-by c s k e = elim (eqb k 0) [ true ↦ effected st s e | false ↦ store_refusal c k st s ]
+  abbrev told_by : StoreCall → List Float → ℕ → Effect → StoreOutcome
+  told_by c s k e = elim (eqb k 0) [ true ↦ effected st s e | false ↦ store_refusal c k st s ]
 
   -- LAW
-  pub order-surplus : (c : StoreCall) (s : List Float) → perform_store c st o s ≡ perform_store c st p s
-  order-surplus c s =
+  pub order_surplus : (c : StoreCall) (s : List Float) → perform_store c st o s ≡ perform_store c st p s
+  order_surplus c s =
       let r = load st.n s in
-      perform_is c st o s ∙ ap (λ (ts : List Test). told-by c s (first_of ts) (effect c st o r)) (tests_same c (length s))
-      ∙ ap (λ (e : Effect). told-by c s (tested_of c st p s) e) (effect-same c r) ∙ sym (perform_is c st p s)
+      perform_is c st o s ∙ ap (λ (ts : List Test). told_by c s (first_of ts) (effect c st o r)) (tests_same c (length s))
+      ∙ ap (λ (e : Effect). told_by c s (tested_of c st p s) e) (effect_same c r) ∙ sym (perform_is c st p s)

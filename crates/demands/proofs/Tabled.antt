@@ -31,7 +31,7 @@ use Rattle.factor.specs.declared.state.State.{State}
 use Rattle.measures.specs.declared.scaling.Mode.TheVariants as mode
 use Rattle.leaves.proofs.Refusals.{refused_iff, passed_iff}
 use Rattle.demands.proofs.Effects.{Effect, effect, finite_or, tested_of}
-use Rattle.demands.proofs.Leavings.{tests_numbered, passed_is, refused-is}
+use Rattle.demands.proofs.Leavings.{tests_numbered, passed_is, refused_is}
 use Rattle.leaves.specs.Refusing.{NoneHold, RefusedBy}
 use Rattle.demands.specs.Refusals.{store_refusal, refused_as, shortest_of, further_of, store_tests}
 use Rattle.demands.specs.Eight.{zero_x, damped_l, top_of, any_nan, before_yes, column_measures, store_breaks}
@@ -42,10 +42,10 @@ use Rattle.demands.proofs.TestNumbers.{small, first_small}
 abbrev eight_if : Bool → ℕ
 eight_if b = cond b 8 0
 
-finite_not_nan : (x : List Float) (e f : Effect) → store_number e.answer ≡ 0 → store_number f.answer ≡ 8
+finite_not_nan_lem : (x : List Float) (e f : Effect) → store_number e.answer ≡ 0 → store_number f.answer ≡ 8
     → store_number (finite_or x e f).answer ≡ eight_if (not (all_finite x))
 unfolding finite_or
-finite_not_nan x e f p q = by (all_finite x)
+finite_not_nan_lem x e f p q = by (all_finite x)
   where
     by : (b : Bool) → (let g : Effect = elim b [ true ↦ e | false ↦ f ] in store_number g.answer ≡ eight_if (not b))
     by true = p
@@ -92,10 +92,10 @@ rescaled_number false a new old = refl
 
 pub effect_number : (c : StoreCall) (st : State) (order : List ℕ) (r : Room) → store_number (effect c st order r).answer ≡ eight_if (store_breaks c st order r)
 unfolding effect store_breaks measure above_limit rescaled
-effect_number (zero_solve out) st order r = finite_not_nan (zero_x st r) _ _ refl refl
-effect_number (damped_solve diag out) st order r = finite_not_nan (damped_numbers (damped_l st order diag r)) _ _ refl refl
-effect_number (held_solve rhs out) st order r = finite_not_nan (held_solved st.held (gather (take st.n order) rhs) r) _ _ refl refl
-effect_number (held_product out) st order r = finite_not_nan (held_product_of st.held r) _ _ refl refl
+effect_number (zero_solve out) st order r = finite_not_nan_lem (zero_x st r) _ _ refl refl
+effect_number (damped_solve diag out) st order r = finite_not_nan_lem (damped_numbers (damped_l st order diag r)) _ _ refl refl
+effect_number (held_solve rhs out) st order r = finite_not_nan_lem (held_solved st.held (gather (take st.n order) rhs) r) _ _ refl refl
+effect_number (held_product out) st order r = finite_not_nan_lem (held_product_of st.held r) _ _ refl refl
 effect_number (gradient bnorm) st order r = largest_number plus_zero (column_measures st order bnorm r)
 effect_number (above bnorm limit) st order r = above_number limit (column_measures st order bnorm r)
 effect_number (jx_norm x) st order r = or8_number (jx_norm_of (gather (take st.n order) x) r.upper) _
@@ -163,51 +163,51 @@ module _ (c : StoreCall) (st : State) (order : List ℕ) (s : List Float) where
   abbrev broke : Bool
   broke = store_breaks c st order (load st.n s)
 
-  passed-number : tested_of c st order s ≡ 0 → given ≡ eight_if broke
-  passed-number e = ap (λ (o : StoreOutcome). store_number o.answer) (passed_is c st order s e) ∙ effect_number c st order (load st.n s)
+  passed_number : tested_of c st order s ≡ 0 → given ≡ eight_if broke
+  passed_number e = ap (λ (o : StoreOutcome). store_number o.answer) (passed_is c st order s e) ∙ effect_number c st order (load st.n s)
 
-  stopped-number : (tested_of c st order s ≡ 0 → ⊥) → given ≡ tested_of c st order s
-  stopped-number h = ap (λ (o : StoreOutcome). store_number o.answer) (refused-is c st order s h) ∙ refused_number c (tested_of c st order s)
+  stopped_number : (tested_of c st order s ≡ 0 → ⊥) → given ≡ tested_of c st order s
+  stopped_number h = ap (λ (o : StoreOutcome). store_number o.answer) (refused_is c st order s h) ∙ refused_number c (tested_of c st order s)
 
   by_number : (P : ℕ → Type 0) → (tested_of c st order s ≡ 0 → P (eight_if broke)) → ((tested_of c st order s ≡ 0 → ⊥) → P (tested_of c st order s)) → P given
   by_number P p q = decide (eqb (tested_of c st order s) 0) refl
     where
       decide : (b : Bool) → eqb (tested_of c st order s) 0 ≡ b → P given
-      decide true e = let z = eqb-true (tested_of c st order s) 0 e in subst P (sym (passed-number z)) (p z)
-      decide false e = let z = eqb-false (tested_of c st order s) 0 e in subst P (sym (stopped-number z)) (q z)
+      decide true e = let z = eqb-true (tested_of c st order s) 0 e in subst P (sym (passed_number z)) (p z)
+      decide false e = let z = eqb-false (tested_of c st order s) 0 e in subst P (sym (stopped_number z)) (q z)
 
   -- LAW: 2 to 7, in the order of the tests
   pub refused_early : (k : ℕ) → 0 < k → k < 8 → (given ≡ k) ↔ RefusedBy tests k
   refused_early k p q = (
     by_number (λ (g : ℕ). g ≡ k → RefusedBy tests k) (λ z e. absurd (either_way broke k p q e)) (λ h e. (refused_iff tests k p).0 e),
-    λ r. let e = (refused_iff tests k p).1 r in stopped-number (λ z. let j = sym e ∙ z in omega arith) ∙ e,
+    λ r. let e = (refused_iff tests k p).1 r in stopped_number (λ z. let j = sym e ∙ z in omega arith) ∙ e,
   )
 
   -- LAW: and then everything is as it came
   pub refused_whole : (k : ℕ) → 0 < k → RefusedBy tests k → perform_store c st order s ≡ store_refusal c k st s
   refused_whole k p r =
       let e = (refused_iff tests k p).1 r in
-      refused-is c st order s (λ z. let j = sym e ∙ z in omega arith) ∙ ap (λ (i : ℕ). store_refusal c i st s) e
+      refused_is c st order s (λ z. let j = sym e ∙ z in omega arith) ∙ ap (λ (i : ℕ). store_refusal c i st s) e
 
   none_met : tested_of c st order s ≡ 0 → NoneHold tests
   none_met e = (passed_iff tests (tests_numbered c st (length s) order)).0 e
 
-  met-none : NoneHold tests → tested_of c st order s ≡ 0
-  met-none h = (passed_iff tests (tests_numbered c st (length s) order)).1 h
+  met_none : NoneHold tests → tested_of c st order s ≡ 0
+  met_none h = (passed_iff tests (tests_numbered c st (length s) order)).1 h
 
   -- LAW: 8
   pub refused_eight : (given ≡ 8) ↔ (NoneHold tests × (broke ≡ true))
   refused_eight = (
     by_number (λ (g : ℕ). g ≡ 8 → NoneHold tests × (broke ≡ true)) (λ z e. (none_met z, eight_back broke e))
         (λ h e. let j = tested_small c st order s in absurd (omega arith)),
-    λ w. passed-number (met-none w.0) ∙ ap eight_if w.1,
+    λ w. passed_number (met_none w.0) ∙ ap eight_if w.1,
   )
 
   -- LAW: answered
   pub answered_otherwise : (given ≡ 0) ↔ (NoneHold tests × (broke ≡ false))
   answered_otherwise = (
     by_number (λ (g : ℕ). g ≡ 0 → NoneHold tests × (broke ≡ false)) (λ z e. (none_met z, none_back broke e)) (λ h e. absurd (h e)),
-    λ w. passed-number (met-none w.0) ∙ ap eight_if w.1,
+    λ w. passed_number (met_none w.0) ∙ ap eight_if w.1,
   )
 
   abbrev after_first : List Test

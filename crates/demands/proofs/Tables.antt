@@ -37,7 +37,7 @@ use Rattle.demands.proofs.Tabled as base-table
 use Rattle.demands.specs.History.{Call, search, of_base_outcome, of_search, number_of, perform, is_solve, settling}
 use Rattle.demands.specs.History as any
 use Rattle.demands.proofs.SearchTable as table
-use Rattle.demands.proofs.Laws.{zero, as-zero, zero-tested, base-settling, search-settling}
+use Rattle.demands.proofs.Laws.{zero, as_zero, zero-tested, base_settling, search-settling}
 use Rattle.leaves.specs.Refusing.{NoneHold, RefusedBy}
 use Rattle.demands.specs.Refusals.{tests_of, refusal, store_tests}
 use Rattle.demands.specs.Eight.{zero_x, damped_l, store_left_by_eight, Breaks, Stands, left_by_eight}
@@ -80,24 +80,24 @@ module _ (st : State) (order : List ℕ) (s : List Float) where
       ap (λ (x : Reply Scaled). basic.store_outcome (basic.scaled x) st (lay (rested room)) r.1) h.0
       ∙ ap (λ (x : List Float). basic.store_outcome (basic.scaled (refused 8)) st (lay (rested room)) x) h.1
 
-  effect-eight : (c : basic.StoreCall) → basic.store_number (effect c st order room).answer ≡ 8 → effected st s (effect c st order room) ≡ store_left_by_eight c st s
+  effect_eight : (c : basic.StoreCall) → basic.store_number (effect c st order room).answer ≡ 8 → effected st s (effect c st order room) ≡ store_left_by_eight c st s
   unfolding effect
-  effect-eight (basic.zero_solve out) h = either st s (zero_x st room) _ _ _ refl refl h
-  effect-eight (basic.damped_solve diag out) h = either st s (damped_numbers (damped_l st order diag room)) _ _ _ refl refl h
-  effect-eight (basic.held_solve rhs out) h = either st s (held_solved st.held (gather (take st.n order) rhs) room) _ _ _ refl refl h
-  effect-eight (basic.held_product out) h = either st s (held_product_of st.held room) _ _ _ refl refl h
-  effect-eight (basic.gradient bnorm) h = ap (λ (x : Reply Float). basic.store_outcome (basic.number x) st (lay (rested room)) []) (by_eight _ h)
-  effect-eight (basic.above bnorm limit) h = ap (λ (x : Reply Bool). basic.store_outcome (basic.truth x) st (lay (rested room)) []) (by_eight _ h)
-  effect-eight (basic.jx_norm x) h = ap (λ (x : Reply (Float × Ranges)). basic.store_outcome (basic.ranged x) st (lay (rested room)) []) (by_eight _ h)
-  effect-eight (basic.scaling md diag x bound) h = scaled-left (rescaled md st.n room.norms diag x bound) diag (rescaled_eight md st.n room.norms diag x bound h)
-  effect-eight basic.determined h = absurd (omega arith)
-  effect-eight basic.non_singular h = absurd (omega arith)
+  effect_eight (basic.zero_solve out) h = either st s (zero_x st room) _ _ _ refl refl h
+  effect_eight (basic.damped_solve diag out) h = either st s (damped_numbers (damped_l st order diag room)) _ _ _ refl refl h
+  effect_eight (basic.held_solve rhs out) h = either st s (held_solved st.held (gather (take st.n order) rhs) room) _ _ _ refl refl h
+  effect_eight (basic.held_product out) h = either st s (held_product_of st.held room) _ _ _ refl refl h
+  effect_eight (basic.gradient bnorm) h = ap (λ (x : Reply Float). basic.store_outcome (basic.number x) st (lay (rested room)) []) (by_eight _ h)
+  effect_eight (basic.above bnorm limit) h = ap (λ (x : Reply Bool). basic.store_outcome (basic.truth x) st (lay (rested room)) []) (by_eight _ h)
+  effect_eight (basic.jx_norm x) h = ap (λ (x : Reply (Float × Ranges)). basic.store_outcome (basic.ranged x) st (lay (rested room)) []) (by_eight _ h)
+  effect_eight (basic.scaling md diag x bound) h = scaled-left (rescaled md st.n room.norms diag x bound) diag (rescaled_eight md st.n room.norms diag x bound h)
+  effect_eight basic.determined h = absurd (omega arith)
+  effect_eight basic.non_singular h = absurd (omega arith)
 
-  base-eight : (c : basic.StoreCall) → basic.store_number (basic.perform_store c st order s).answer ≡ 8 → basic.perform_store c st order s ≡ store_left_by_eight c st s
-  base-eight c h =
+  base_eight : (c : basic.StoreCall) → basic.store_number (basic.perform_store c st order s).answer ≡ 8 → basic.perform_store c st order s ≡ store_left_by_eight c st s
+  base_eight c h =
       let n = ((base-table.refused_eight c st order s).0 h).0 in
       let e = passed_is c st order s ((passed_iff (store_tests c st (length s) order) (tests_numbered c st (length s) order)).1 n) in
-      e ∙ effect-eight c (ap (λ (o : basic.StoreOutcome). basic.store_number o.answer) (sym e) ∙ h)
+      e ∙ effect_eight c (ap (λ (o : basic.StoreOutcome). basic.store_number o.answer) (sym e) ∙ h)
 
 -- ---- every call
 
@@ -124,7 +124,7 @@ refused_eight (search diag radius lambda out) st order s = table.refused_eight s
 -- LAW: and what is then in the lent slices
 pub eight_whole : (c : Call) (st : State) (order : List ℕ) (s : List Float) → number_of (perform c st order s).answer ≡ 8 → perform c st order s ≡ left_by_eight c st s
 unfolding perform
-eight_whole (any.base c) st order s h = ap of_base_outcome (base-eight st order s c h)
+eight_whole (any.base c) st order s h = ap of_base_outcome (base_eight st order s c h)
 eight_whole (search diag radius lambda out) st order s h = ap of_search (table.eight_whole st order diag radius lambda s out h)
 
 -- LAW: answered
@@ -147,7 +147,7 @@ unfolding perform
 work_rests (any.base c) st order s h = base_work c st order s ((passed_iff (store_tests c st (length s) order) (tests_numbered c st (length s) order)).1 h)
 work_rests (search diag radius lambda out) st order s h =
     let e = (passed_iff (tests_of (search diag radius lambda out) st order s) refl).1 h in
-    ap (λ (x : List Float). (load st.n x).work) (as-zero diag radius lambda out st order s e) ∙ base_work (zero st) st order s (zero-tested diag radius lambda out st order s e)
+    ap (λ (x : List Float). (load st.n x).work) (as_zero diag radius lambda out st order s e) ∙ base_work (zero st) st order s (zero-tested diag radius lambda out st order s e)
 
 -- LAW: a call settles exactly when it is a solve or a search and passes all checks before 8
 pub settles_when : (c : Call) (st : State) (order : List ℕ) (s : List Float) → (settling c st order s ≡ true) ↔ ((is_solve c ≡ true) × NoneHold (tests_of c st order s))
@@ -155,8 +155,8 @@ settles_when (any.base c) st order s =
     let ts = store_tests c st (length s) order in
     let q = tests_numbered c st (length s) order in
     let k = base.tested_of c st order s in (
-      λ h. let w = (and-eq-true_iff (basic.is_store_solve c) (eqb k 0)).0 (sym (base-settling c st order s) ∙ h) in (w.0, (passed_iff ts q).0 (eqb-true k 0 w.1)),
-      λ w. base-settling c st order s ∙ (and-eq-true_iff (basic.is_store_solve c) (eqb k 0)).1 (w.0, eq-eqb k 0 ((passed_iff ts q).1 w.1)),
+      λ h. let w = (and-eq-true_iff (basic.is_store_solve c) (eqb k 0)).0 (sym (base_settling c st order s) ∙ h) in (w.0, (passed_iff ts q).0 (eqb-true k 0 w.1)),
+      λ w. base_settling c st order s ∙ (and-eq-true_iff (basic.is_store_solve c) (eqb k 0)).1 (w.0, eq-eqb k 0 ((passed_iff ts q).1 w.1)),
     )
 settles_when (search diag radius lambda out) st order s =
     let ts = tests_of (search diag radius lambda out) st order s in (

@@ -22,7 +22,7 @@ use Rattle.factor.specs.Parts.{qtb_in, norms_in, diagonal_in, rest_in}
 use Rattle.demands.specs.Calls.{reply_number}
 use Rattle.demands.specs.Workings.{ByTests, ByTestsAnd8, Workings, Parts, SharedTests}
 use Rattle.demands.proofs.TestNumbers.{small, first_small}
-use Rattle.demands.proofs.FactoringTable.{worked-stands, worked-breaks}
+use Rattle.demands.proofs.FactoringTable.{worked_stands, worked_breaks}
 
 module _ {A B : Type 0} (ts : List Test) (reply : A → Reply B) (came : Reply B → A) (worked : A) where
   abbrev pub outcome : A
@@ -45,9 +45,9 @@ module _ {A B : Type 0} (ts : List Test) (reply : A → Reply B) (came : Reply B
 
 -- the same of one that may be refused 8 where it passes its tests
 module _ {A B : Type 0} (ts : List Test) (reply : A → Reply B) (came : Reply B → A) (worked stands breaks : A) (finite : Bool) where
-  pub by-tests-and-8 : numbered ts ≡ true → small ts ≡ true → ((r : Reply B) → reply (came r) ≡ r) → (finite ≡ true → worked ≡ stands) → (finite ≡ false → worked ≡ breaks)
+  pub by_tests_and_8 : numbered ts ≡ true → small ts ≡ true → ((r : Reply B) → reply (came r) ≡ r) → (finite ≡ true → worked ≡ stands) → (finite ≡ false → worked ≡ breaks)
       → reply_number (reply stands) ≡ 0 → reply_number (reply breaks) ≡ 8 → ByTestsAnd8 ts reply came finite stands breaks (outcome ts reply came worked)
-  by-tests-and-8 q s same st br zs zb = record {
+  by_tests_and_8 q s same st br zs zb = record {
     refused_when = λ k p l. (
       λ h. cases (λ n f e. absurd (let z = number e h in omega arith)) (λ n f e. absurd (let z = number e h in omega arith)) (λ n e. (refused_iff ts k p).0 (sym (by_number e) ∙ h)),
       λ r.
@@ -103,8 +103,8 @@ workings = record {
   factor_filled = λ m n store order bench.
       let j = take (m * n) bench in
       let r = drop (m * n) bench in
-      by-tests-and-8 _ _ _ (filled_of (factor_worked m n j r store order bench)) _ _ _ refl refl (λ a. refl) (λ h. ap filled_of (worked-stands m n j r store order bench h))
-      (λ h. ap filled_of (worked-breaks m n j r store order bench h)) refl refl;
+      by_tests_and_8 _ _ _ (filled_of (factor_worked m n j r store order bench)) _ _ _ refl refl (λ a. refl) (λ h. ap filled_of (worked_stands m n j r store order bench h))
+      (λ h. ap filled_of (worked_breaks m n j r store order bench h)) refl refl;
   eliminate_diag = λ n ds square rhs ldiag. by_tests _ _ _ _ refl (λ r. refl) refl;
 }
 

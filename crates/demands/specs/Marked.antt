@@ -4,10 +4,10 @@ use Rattle.std.specs.Prelude.{ℕ, min, ◌≡◌, Bool, true, false, ◌&&◌, 
 use Rattle.leaves.specs.Reply.{Reply, answered, refused}
 use Rattle.leaves.specs.Square.{zeros}
 use Rattle.leaves.specs.Tests.{Test, first_of}
-use Rattle.frozen.specs.Frozen.{freeOf, merged}
+use Rattle.frozen.specs.Frozen.{free_of, merged}
 use Rattle.factor.specs.Outcome.{written}
 use Rattle.factor.specs.Solve.{padded}
-use Rattle.factor.specs.Tests.{held_test, finite_test, finite_number, not_above}
+use Rattle.factor.specs.Tests.{held_test, finite_test, finite_not_nan, not_above}
 use Rattle.factor.specs.declared.state.State.{State as Plain}
 use Rattle.calls.specs.declared.state.State.{State}
 use Rattle.calls.specs.State.{marked_held, marked, marks_in, cols, whole, without_frozen}
@@ -58,7 +58,7 @@ tests_marked (base (zero_solve out)) st order s = marked_solve_tests st (length 
 tests_marked (base (damped_solve diag out)) st order s = marked_solve_tests st (length s) order (min (length diag) (length out)) ++ (finite_test (whole st) diag ∷ free_test st ∷ [])
 tests_marked (base (held_solve rhs out)) st order s = marked_solve_tests st (length s) order (min (length rhs) (length out)) ++ (held_test (whole st) ∷ finite_test (whole st) rhs ∷ free_test st ∷ [])
 tests_marked (base (held_product out)) st order s = marked_room_tests st (length s) (length out) ++ (held_test (whole st) ∷ free_test st ∷ [])
-tests_marked (base (gradient bnorm)) st order s = marked_room_tests st (length s) (length order) ++ (form_test st order ∷ finite_number bnorm ∷ (not_above bnorm, 7) ∷ free_test st ∷ [])
+tests_marked (base (gradient bnorm)) st order s = marked_room_tests st (length s) (length order) ++ (form_test st order ∷ finite_not_nan bnorm ∷ (not_above bnorm, 7) ∷ free_test st ∷ [])
 tests_marked (base (above bnorm limit)) st order s = marked_above_tests st (length s) order bnorm limit
 tests_marked (base (jx_norm x)) st order s = marked_solve_tests st (length s) order (length x) ++ (finite_test (whole st) x ∷ free_test st ∷ [])
 tests_marked (base (scaling md diag x bound)) st order s = marked_scaling_tests st md (length s) diag x bound
@@ -81,16 +81,16 @@ refusal_marked c k st s = with_marks st.marks (refusal c k (whole st) s)
 -- the call on the problem without the frozen columns: its slices without them, its own output; a lent scaling is read and written
 unfoldable pub reduced_call : State → Call → Call
 reduced_call st (base (zero_solve out)) = base (zero_solve (zeros (cols st)))
-reduced_call st (base (damped_solve diag out)) = base (damped_solve (freeOf (marks_in st) diag) (zeros (cols st)))
-reduced_call st (base (held_solve rhs out)) = base (held_solve (freeOf (marks_in st) rhs) (zeros (cols st)))
+reduced_call st (base (damped_solve diag out)) = base (damped_solve (free_of (marks_in st) diag) (zeros (cols st)))
+reduced_call st (base (held_solve rhs out)) = base (held_solve (free_of (marks_in st) rhs) (zeros (cols st)))
 reduced_call st (base (held_product out)) = base (held_product (zeros (cols st)))
 reduced_call st (base (gradient bnorm)) = base (gradient bnorm)
 reduced_call st (base (above bnorm limit)) = base (above bnorm limit)
-reduced_call st (base (jx_norm x)) = base (jx_norm (freeOf (marks_in st) x))
-reduced_call st (base (scaling md diag x bound)) = base (scaling md (freeOf (marks_in st) diag) (freeOf (marks_in st) x) bound)
+reduced_call st (base (jx_norm x)) = base (jx_norm (free_of (marks_in st) x))
+reduced_call st (base (scaling md diag x bound)) = base (scaling md (free_of (marks_in st) diag) (free_of (marks_in st) x) bound)
 reduced_call st (base determined) = base determined
 reduced_call st (base non_singular) = base non_singular
-reduced_call st (search diag radius lambda out) = search (freeOf (marks_in st) diag) radius lambda (zeros (cols st))
+reduced_call st (search diag radius lambda out) = search (free_of (marks_in st) diag) radius lambda (zeros (cols st))
 
 -- what it leaves, in the lent store without the frozen columns
 abbrev pub reduced_outcome : Call → State → List ℕ → List Float → Outcome
@@ -174,9 +174,9 @@ settling_under marks c st order s = let k = number_of (perform_under marks c st 
 
 -- the calls of a run that pass their tests, each as the call on the problem without the frozen columns; one that does not changes nothing
 module _ (marks : ℕ) (order : List ℕ) where
-  unfoldable pub reducedRun : List Call → Plain → List Float → List Call
-  reducedRun [] st s = []
-  reducedRun (c ∷ cs) st s =
+  unfoldable pub reduced_run : List Call → Plain → List Float → List Call
+  reduced_run [] st s = []
+  reduced_run (c ∷ cs) st s =
       let o = perform_under marks c st order s in
-      let ds = reducedRun cs o.state o.store in
+      let ds = reduced_run cs o.state o.store in
       elim (eqb (first_of (tests_marked c (marked marks st) order s)) 0) [ true ↦ reduced_call (marked marks st) c ∷ ds | false ↦ ds ]

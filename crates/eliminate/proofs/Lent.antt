@@ -88,9 +88,9 @@ module _ (n : ℕ) (ds s bs l : List Float) where
   abbrev rows : List (List Float)
   rows = (damping ds (uppers_of n s) bs).0
 
-  pub diag-refused : (c : ℕ) → c ≡ tests → (c ≡ 0 → ⊥) → eliminated_as (refused c) s bs l ≡ eliminate_call n ds s bs l
+  pub diag_refused : (c : ℕ) → c ≡ tests → (c ≡ 0 → ⊥) → eliminated_as (refused c) s bs l ≡ eliminate_call n ds s bs l
   unfolding eliminate_call
-  diag-refused c e h = call-refused _ (λ k. eliminated_as (refused k) s bs l) _ c (sym e) (ne_eqb c 0 h)
+  diag_refused c e h = call-refused _ (λ k. eliminated_as (refused k) s bs l) _ c (sym e) (ne_eqb c 0 h)
 
   worked : tests ≡ 0 → eliminated_as (answered tt) (joined (uppers_of n s) (tails rows)) (damping ds (uppers_of n s) bs).1 (heads rows) ≡ eliminate_call n ds s bs l
   unfolding eliminate_call
@@ -101,9 +101,9 @@ module _ (n : ℕ) (ds s bs l : List Float) where
   laid s' bs' l' w e =
       sym (take_all (n * n) s' (omega arith)) ∙ sym (joined-columns n n 0 s') ∙ rw (e.upper, e.below)
 
-  pub diag-worked : (c : ℕ) (s' bs' l' : List Float) → c ≡ tests → c ≡ 0 → length s' ≡ n * n → Eliminates n ds s s' bs bs' l'
+  pub diag_worked : (c : ℕ) (s' bs' l' : List Float) → c ≡ tests → c ≡ 0 → length s' ≡ n * n → Eliminates n ds s s' bs bs' l'
       → eliminated_as (answered tt) s' bs' l' ≡ eliminate_call n ds s bs l
-  diag-worked c s' bs' l' t z w e = rw (laid s' bs' l' w e, e.diagonal, e.right) (worked (sym t ∙ z))
+  diag_worked c s' bs' l' t z w e = rw (laid s' bs' l' w e, e.diagonal, e.right) (worked (sym t ∙ z))
 
   -- ---- and read again: R and L, each of its shape
   tall : Square n s → Tall n 0 (uppers_of n s) (tails rows)
@@ -118,11 +118,11 @@ module _ (n : ℕ) (ds s bs l : List Float) where
         belows = λ k p. tails_tall n rows h k (omega arith) ∙ omega arith;
       }
 
-  uppers-again : Square n s → uppers_of n (joined (uppers_of n s) (tails rows)) ≡ uppers_of n s
-  uppers-again q = rw (append-nil (joined (uppers_of n s) (tails rows)), uppers_of-length n s) at (uppers-joined n 0 (uppers_of n s) (tails rows) [] (tall q))
+  uppers_again : Square n s → uppers_of n (joined (uppers_of n s) (tails rows)) ≡ uppers_of n s
+  uppers_again q = rw (append-nil (joined (uppers_of n s) (tails rows)), uppers_of-length n s) at (uppers-joined n 0 (uppers_of n s) (tails rows) [] (tall q))
 
-  belows-again : Square n s → belows_of n (joined (uppers_of n s) (tails rows)) ≡ tails rows
-  belows-again q = rw (append-nil (joined (uppers_of n s) (tails rows)), uppers_of-length n s) at (belows_joined n 0 (uppers_of n s) (tails rows) [] (tall q))
+  belows_again : Square n s → belows_of n (joined (uppers_of n s) (tails rows)) ≡ tails rows
+  belows_again q = rw (append-nil (joined (uppers_of n s) (tails rows)), uppers_of-length n s) at (belows_joined n 0 (uppers_of n s) (tails rows) [] (tall q))
 
 -- LAW: what the call leaves where the slices fit, as the inner working has it
 pub eliminates : (n : ℕ) (ds s s' bs bs' l₀ l' : List Float) {d : Reply (Unit {0})} → Square n s → 0 < n → length ds ≡ n → length bs ≡ n → length l₀ ≡ n
@@ -132,8 +132,8 @@ eliminates n ds s s' bs bs' l₀ l' q p hd hb hl e =
     let w = e ∙ sym (worked n ds s bs l₀ f) in
     let x = ap (λ (r : Eliminated). r.square) w in
     record {
-      upper = rw x (uppers-again n ds s bs l₀ q);
-      below = rw x (belows-again n ds s bs l₀ q);
+      upper = rw x (uppers_again n ds s bs l₀ q);
+      below = rw x (belows_again n ds s bs l₀ q);
       diagonal = ap (λ (r : Eliminated). r.ldiag) w;
       right = ap (λ (r : Eliminated). r.rhs) w;
     }

@@ -16,13 +16,13 @@ use Rattle.eliminate.specs.declared.eliminate.Rotation.{Rotation}
 
 -- ---- the rotation, by its test
 module _ (r l t c : Float) {b : Float} {q : Bool} (eb : b ≡ abs_of l) (eq : q ≡ lt (abs_of r) b) (ec : c ≡ lesser t) where
-  pub by-cot : q ≡ true → t ≡ div binary64 r l → ◌≡◌ {A = Rotation} (record { sin = c; cos = mul binary64 c t }) (givens r l)
+  pub by_cot_lem : q ≡ true → t ≡ div binary64 r l → ◌≡◌ {A = Rotation} (record { sin = c; cos = mul binary64 c t }) (givens r l)
   unfolding givens by_cot
-  by-cot w e = let v : lt (abs_of r) (abs_of l) ≡ true = ap (lt (abs_of r)) (sym eb) ∙ sym eq ∙ w in rw (ec, e, v, givens)
+  by_cot_lem w e = let v : lt (abs_of r) (abs_of l) ≡ true = ap (lt (abs_of r)) (sym eb) ∙ sym eq ∙ w in rw (ec, e, v, givens)
 
-  pub by-tan : q ≡ false → t ≡ div binary64 l r → ◌≡◌ {A = Rotation} (record { sin = mul binary64 c t; cos = c }) (givens r l)
+  pub by_tan_lem : q ≡ false → t ≡ div binary64 l r → ◌≡◌ {A = Rotation} (record { sin = mul binary64 c t; cos = c }) (givens r l)
   unfolding givens by_tan
-  by-tan w e = let v : lt (abs_of r) (abs_of l) ≡ false = ap (lt (abs_of r)) (sym eb) ∙ sym eq ∙ w in rw (ec, e, v, givens)
+  by_tan_lem w e = let v : lt (abs_of r) (abs_of l) ≡ false = ap (lt (abs_of r)) (sym eb) ∙ sym eq ∙ w in rw (ec, e, v, givens)
 
 -- ---- two rows turned
 pub turned-length : (g : Rotation) (xs ys : List Float) → length xs ≡ length ys → length (turned_all g xs ys) ≡ length xs
@@ -58,12 +58,12 @@ left_at g (x ∷ xs) (y ∷ ys) (suc i) h k = left_at g xs ys i (le_of_suc-le-su
 pub front_at : (zs ys : List Float) (i : ℕ) → i ≤ length zs → get_or (front i zs ys) i nan ≡ get_or ys i nan
 front_at zs ys zero h = refl
 front_at [] ys (suc i) h = absurd (not-suc-le-zero h)
-front_at (z ∷ zs) [] (suc i) h = front-none zs i (le_of_suc-le-suc h)
+front_at (z ∷ zs) [] (suc i) h = front_none zs i (le_of_suc-le-suc h)
   where
-    front-none : (zs : List Float) (i : ℕ) → i ≤ length zs → get_or (take i zs ++ []) i nan ≡ nan
-    front-none zs zero h = refl
-    front-none [] (suc i) h = refl
-    front-none (z ∷ zs) (suc i) h = front-none zs i (le_of_suc-le-suc h)
+    front_none : (zs : List Float) (i : ℕ) → i ≤ length zs → get_or (take i zs ++ []) i nan ≡ nan
+    front_none zs zero h = refl
+    front_none [] (suc i) h = refl
+    front_none (z ∷ zs) (suc i) h = front_none zs i (le_of_suc-le-suc h)
 front_at (z ∷ zs) (y ∷ ys) (suc i) h = front_at zs ys i (le_of_suc-le-suc h)
 
 -- ---- the row ahead
@@ -95,9 +95,9 @@ up_to-same k rows bs x h u =
 
 module _ (k : ℕ) (rows : List (List Float)) (bs l : List Float) (q : Float) (h : k < length rows) (u : k < length bs) (v : k < length l) where
   -- LAW: a place whose entry is zero
-  pub ahead-skipped : eq (get_or l k nan) plus_zero ≡ true
+  pub ahead_skipped : eq (get_or l k nan) plus_zero ≡ true
       → up_to (suc k) rows bs (rotated (drop (suc k) rows) (drop (suc k) bs) (drop (suc k) l) q) ≡ up_to k rows bs (rotated (drop k rows) (drop k bs) (drop k l) q)
-  ahead-skipped t =
+  ahead_skipped t =
       up_to-same k rows bs _ h u
       ∙ rw (drop-cons rows k [] h, drop-cons bs k nan u, drop-cons l k nan v)
       (ap (up_to k rows bs) (sym (first_skipped (get_or rows k []) (drop (suc k) rows) (get_or bs k nan) (drop (suc k) bs) (get_or l k nan) (drop (suc k) l) q t)))

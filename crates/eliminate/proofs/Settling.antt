@@ -119,10 +119,10 @@ heads_next ldiag row m j h = rw (take-suc-set ldiag j (get_or row 0 nan) h) (app
 
 module _ (n j : ℕ) (ds s₀ s s₁ s₂ bs bs₁ ldiag : List Float) (v old : Float) {x : Rows} (h : j < n) (hd : length ds ≡ n) (hb : length bs ≡ n) (hb₁ : length bs₁ ≡ n) (hl : length ldiag ≡ n) where
   -- LAW: row j begun, rotated, and put away
-  pub settle-turn : v ≡ get_or (heads (edges_of n s₀)) j nan → Settling n j ds s₀ s bs ldiag x
+  pub settle_turn : v ≡ get_or (heads (edges_of n s₀)) j nan → Settling n j ds s₀ s bs ldiag x
       → Turns n s s₁ bs₁ (up_to j (edges_of n s) bs (started (get_or ds j nan) (drop j (edges_of n s)) (drop j bs)))
       → Ends n j s₁ s₂ v old → Settling n (j + 1) ds s₀ s₂ bs₁ (set ldiag j old) x
-  settle-turn hv i t w =
+  settle_turn hv i t w =
       let E = edges_of n s in
       let E₁ = edges_of n s₁ in
       let x' = started (get_or ds j nan) (drop j E) (drop j bs) in

@@ -15,7 +15,7 @@ use Rattle.eliminate.specs.Eliminate.{heads, tails}
 use Rattle.eliminate.specs.inner.Edges.{edges_from, aboves_from, edges_of, aboves_of}
 use Rattle.leaves.specs.inner.Patch.{patch}
 use Rattle.leaves.proofs.Grids.{column_long, tail_read, tail_write}
-use Rattle.leaves.proofs.Squares.{columns-length, uppers_of-length, upper-at, column-end}
+use Rattle.leaves.proofs.Squares.{columns-length, uppers_of-length, upper_at, column_end}
 use Rattle.leaves.specs.inner.Squares.{Square}
 
 -- ---- lists
@@ -98,20 +98,20 @@ belows_tails j (c ∷ cs) =
     rw (d, belows_tails (suc j) cs)
 
 module _ (n : ℕ) (s : List Float) (q : Square n s) (k : ℕ) (h : k < n) where
-  in-columns : k < length (columns n n s)
-  in-columns = let e = columns-length n n s in omega arith
+  in_columns : k < length (columns n n s)
+  in_columns = let e = columns-length n n s in omega arith
 
   -- what is lent from the diagonal to the column's end
   pub edge_at : get_or (edges_of n s) k [] ≡ take (n - k) (drop (k * n + k) s)
   edge_at =
       let e : 0 + k ≡ k = zero-add k in
-      edges_from_at 0 k (columns n n s) in-columns ∙ rw e (sym (tail_read n n k k s h))
+      edges_from_at 0 k (columns n n s) in_columns ∙ rw e (sym (tail_read n n k k s h))
 
-  pub edge-long : length (get_or (edges_of n s) k []) ≡ n - k
-  edge-long = let e = column-end n s q k h in ap length edge_at ∙ simp (length-take, length-drop) (omega arith)
+  pub edge_long : length (get_or (edges_of n s) k []) ≡ n - k
+  edge_long = let e = column_end n s q k h in ap length edge_at ∙ simp (length-take, length-drop) (omega arith)
 
-  pub edge-cell : (i : ℕ) → k ≤ i → i < n → get_or (get_or (edges_of n s) k []) (i - k) nan ≡ get_or s (k * n + i) nan
-  edge-cell i l u =
+  pub edge_cell : (i : ℕ) → k ≤ i → i < n → get_or (get_or (edges_of n s) k []) (i - k) nan ≡ get_or s (k * n + i) nan
+  edge_cell i l u =
       let e : k * n + k + (i - k) ≡ k * n + i = omega arith in
       rw edge_at (get_or-take (n - k) (drop (k * n + k) s) (i - k) nan (omega arith) ∙ get_or-drop (k * n + k) s (i - k) nan ∙ rw e)
 
@@ -119,17 +119,17 @@ module _ (n : ℕ) (s : List Float) (q : Square n s) (k : ℕ) (h : k < n) where
   unfolding heads
   first_at =
       let e : k - k ≡ 0 = omega arith in
-      get_or-map (λ (l : List Float). get_or l 0 nan) (edges_of n s) k [] ∙ (rw e at (edge-cell k (omega arith) h))
+      get_or-map (λ (l : List Float). get_or l 0 nan) (edges_of n s) k [] ∙ (rw e at (edge_cell k (omega arith) h))
 
   -- column k of R is what stands above the diagonal and row k's first
   pub upper-split : get_or (uppers_of n s) k [] ≡ get_or (aboves_of n s) k [] ++ (get_or (heads (edges_of n s)) k nan ∷ [])
   upper-split =
       let e : 0 + k ≡ k = zero-add k in
-      let f = column-end n s q k h in
+      let f = column_end n s q k h in
       let a : get_or (aboves_of n s) k [] ≡ take k (drop (k * n) s) =
-      aboves_from_at 0 k (columns n n s) in-columns ∙ rw (e, column_at n n k s h) (take-take k n (drop (k * n) s) (omega arith)) in
+      aboves_from_at 0 k (columns n n s) in_columns ∙ rw (e, column_at n n k s h) (take-take k n (drop (k * n) s) (omega arith)) in
       let l : k < length (drop (k * n) s) = simp length-drop (omega arith) in
-      upper-at n s q k h ∙ rw (a, first_at) (take-suc (drop (k * n) s) k nan l ∙ rw (get_or-drop (k * n) s k nan))
+      upper_at n s q k h ∙ rw (a, first_at) (take-suc (drop (k * n) s) k nan l ∙ rw (get_or-drop (k * n) s k nan))
 
   -- LAW: what comes back of the part from the diagonal on is row k
   module _ (y : List Float) (ly : length y ≡ n - k) where
@@ -153,18 +153,18 @@ module _ (n : ℕ) (s : List Float) (q : Square n s) (k : ℕ) (h : k < n) where
   module _ (i : ℕ) (l : k ≤ i) (u : i < n) (v : Float) where
     cell-patch : set s (k * n + i) v ≡ patch (k * n + k) (n - k) s (set (get_or (edges_of n s) k []) (i - k) v)
     cell-patch =
-        let f = column-end n s q k h in
+        let f = column_end n s q k h in
         let e : k * n + i ≡ k * n + k + (i - k) = omega arith in
         rw (e, edge_at) (set-patch (k * n + k) (n - k) (i - k) s v (omega arith) (omega arith))
 
-    cell-long : length (set (get_or (edges_of n s) k []) (i - k) v) ≡ n - k
-    cell-long = length-set (get_or (edges_of n s) k []) (i - k) v ∙ edge-long
+    cell_long : length (set (get_or (edges_of n s) k []) (i - k) v) ≡ n - k
+    cell_long = length-set (get_or (edges_of n s) k []) (i - k) v ∙ edge_long
 
-    pub cell-rows : edges_of n (set s (k * n + i) v) ≡ set (edges_of n s) k (set (get_or (edges_of n s) k []) (i - k) v)
-    cell-rows = rw cell-patch (lent_rows (set (get_or (edges_of n s) k []) (i - k) v) cell-long)
+    pub cell_rows : edges_of n (set s (k * n + i) v) ≡ set (edges_of n s) k (set (get_or (edges_of n s) k []) (i - k) v)
+    cell_rows = rw cell-patch (lent_rows (set (get_or (edges_of n s) k []) (i - k) v) cell_long)
 
     pub cell-above : aboves_of n (set s (k * n + i) v) ≡ aboves_of n s
-    cell-above = rw cell-patch (lent-above (set (get_or (edges_of n s) k []) (i - k) v) cell-long)
+    cell-above = rw cell-patch (lent-above (set (get_or (edges_of n s) k []) (i - k) v) cell_long)
 
 -- LAW: R is what stands above the diagonal and the rows' first
 pub uppers_by : (n : ℕ) (s t : List Float) → Square n s → Square n t → aboves_of n s ≡ aboves_of n t → heads (edges_of n s) ≡ heads (edges_of n t)

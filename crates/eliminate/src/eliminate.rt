@@ -11,14 +11,14 @@ use leaves::number::{abs, abs_below};
 use leaves::root::sqrt;
 use leaves::sizes::room16;
 
-#[derive(Drop)]
+#[derive(Clone, Copy)]
 pub struct Rotation {
     pub sin: f64,
     pub cos: f64,
 }
 
 // A right side's entry after a rotation, and what is left of the new row's.
-#[derive(Drop)]
+#[derive(Clone, Copy)]
 pub struct Pair {
     pub b: f64,
     pub rest: f64,

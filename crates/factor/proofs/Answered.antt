@@ -28,7 +28,7 @@ use Rattle.factor.proofs.Layouts.{load-lay}
 use Rattle.factor.proofs.Workings.{norms_long}
 use Rattle.reduce.proofs.Fitting.{Fits, reduction-fits}
 use Rattle.factor.proofs.Shapes.{factored_shaped}
-use Rattle.factor.proofs.Swaps.{reduction-permutes}
+use Rattle.factor.proofs.Swaps.{reduction_permutes}
 use Rattle.factor.specs.inner.Rooms.{Shaped}
 
 -- ---- an answer comes of the first of two outcomes where the second is a refusal
@@ -65,38 +65,38 @@ module _ (m n : ℕ) (jacobian residuals store : List Float) (order : List ℕ) 
 
   module _ {f : Ranges} (h : call.reply ≡ answered f) where
     -- it passed its tests
-    pub answered-passed : Factorable m n jacobian residuals (length store) (length order) (length bench)
-    answered-passed = factor_passed m n jacobian residuals (length store) (length order) (length bench) (eqb-true _ 0 (called h).0)
+    pub answered_passed : Factorable m n jacobian residuals (length store) (length order) (length bench)
+    answered_passed = factor_passed m n jacobian residuals (length store) (length order) (length bench) (eqb-true _ 0 (called h).0)
 
     worked-answered : (factor_worked m n jacobian residuals store order bench).reply ≡ answered f
     worked-answered = ap (λ (x : Factored). x.reply) (sym (called h).1) ∙ h
 
     -- the one outcome
-    pub answered-is : call ≡ answer
-    answered-is = (called h).1 ∙ (worked worked-answered).1
+    pub answered_is : call ≡ answer
+    answered_is = (called h).1 ∙ (worked worked-answered).1
 
     -- LAW (02, #106): the flags of two answered factorings of one Jacobian and its residuals are the same, whatever is lent
     pub factoring-flags : f ≡ flags
-    factoring-flags = answered-same (sym h ∙ ap (λ (x : Factored). x.reply) answered-is)
+    factoring-flags = answered-same (sym h ∙ ap (λ (x : Factored). x.reply) answered_is)
 
     finite : finite_room room ≡ true
     finite = (worked worked-answered).0
 
-    residuals-front : length (take m residuals) ≡ m
-    residuals-front = length-take-le m residuals answered-passed.residuals_long
+    residuals_front : length (take m residuals) ≡ m
+    residuals_front = length-take-le m residuals answered_passed.residuals_long
 
     pub answered-fits : Fits m n made
-    answered-fits = reduction-fits m n jacobian (take m residuals) answered-passed.jacobian_long residuals-front
+    answered-fits = reduction-fits m n jacobian (take m residuals) answered_passed.jacobian_long residuals_front
 
-    pub answered-shaped : Shaped n room
-    answered-shaped = factored_shaped m n (map norm (columns m n jacobian)) (drop (store_need n) store) made answered-fits (norms_long m n jacobian)
+    pub answered_shaped : Shaped n room
+    answered_shaped = factored_shaped m n (map norm (columns m n jacobian)) (drop (store_need n) store) made answered-fits (norms_long m n jacobian)
 
     -- the store holds the factored room
-    pub answered-room : load n call.store ≡ room
-    answered-room = ap (λ (x : Factored). load n x.store) answered-is ∙ load-lay n room answered-shaped
+    pub answered_room : load n call.store ≡ room
+    answered_room = ap (λ (x : Factored). load n x.store) answered_is ∙ load-lay n room answered_shaped
 
     pub answered-state : call.state ≡ record { m = m; n = n; held = held.Nothing }
-    answered-state = ap (λ (x : Factored). x.state) answered-is
+    answered-state = ap (λ (x : Factored). x.state) answered_is
 
     -- LAW: R, qt_b and the column norms are finite
     pub answered-finite : (all_finite_in (load n call.store).upper ≡ true) × ((all_finite (load n call.store).qtb ≡ true) × (all_finite (load n call.store).norms ≡ true))
@@ -104,16 +104,16 @@ module _ (m n : ℕ) (jacobian residuals store : List Float) (order : List ℕ) 
     answered-finite =
         let a = (and-eq-true_iff (all_finite_in room.upper && all_finite room.qtb) (all_finite room.norms)).0 finite in
         let b = (and-eq-true_iff (all_finite_in room.upper) (all_finite room.qtb)).0 a.0 in
-        rw answered-room (b.0, (b.1, a.1))
+        rw answered_room (b.0, (b.1, a.1))
 
     -- LAW: below R, in l_diag and in work +0; the surplus as it was
     pub answered-lower : ((load n call.store).below ≡ no_lower n) × (((load n call.store).ldiag ≡ zeros n) × (((load n call.store).work ≡ zeros n) × ((load n call.store).rest ≡ drop (store_need n) store)))
     unfolding factored_room
-    answered-lower = rw answered-room (refl, (refl, (refl, refl)))
+    answered-lower = rw answered_room (refl, (refl, (refl, refl)))
 
     -- LAW
-    pub answered-as-factored : AsFactored n (load n call.store)
-    answered-as-factored = record {
+    pub answered_as_factored : AsFactored n (load n call.store)
+    answered_as_factored = record {
       below_zero = answered-lower.0;
       ldiag_zero = answered-lower.1.0;
       work_zero = answered-lower.1.1.0;
@@ -125,6 +125,6 @@ module _ (m n : ℕ) (jacobian residuals store : List Float) (order : List ℕ) 
     -- LAW: the order list's first n are a permutation of 0 to n−1
     pub answered-order : is_permutation n call.order ≡ true
     answered-order =
-        let e : call.order ≡ made.order ++ drop n order = ap (λ (x : Factored). x.order) answered-is in
+        let e : call.order ≡ made.order ++ drop n order = ap (λ (x : Factored). x.order) answered_is in
         ap (is_permutation n) e ∙ ap (distinct_below n) (take_at made.order (drop n order) n answered-fits.order_long)
-        ∙ reduction-permutes m n jacobian (take m residuals) answered-passed.jacobian_long residuals-front
+        ∙ reduction_permutes m n jacobian (take m residuals) answered_passed.jacobian_long residuals_front

@@ -18,21 +18,21 @@ use Rattle.leaves.specs.inner.Squares.{Square}
 
 -- what is lent of the column under the diagonal
 module _ (n : ℕ) (s : List Float) (q : Square n s) (j : ℕ) (h : j < n) where
-  pub below-is : get_or (belows_of n s) j [] ≡ take (n - suc j) (drop (j * n + suc j) s)
-  below-is = below_at n s q j h ∙ drop-take (suc j) n (drop (j * n) s) ∙ ap (take (n - suc j)) (drop-drop (suc j) (j * n) s)
+  pub below_is : get_or (belows_of n s) j [] ≡ take (n - suc j) (drop (j * n + suc j) s)
+  below_is = below_at n s q j h ∙ drop-take (suc j) n (drop (j * n) s) ∙ ap (take (n - suc j)) (drop-drop (suc j) (j * n) s)
 
-  pub below-part : (e : ℕ) → e ≤ n → take (j * n + e - (j * n + (j + 1))) (drop (j * n + (j + 1)) s) ≡ take (e - suc j) (get_or (belows_of n s) j [])
-  below-part e l =
+  pub below_part : (e : ℕ) → e ≤ n → take (j * n + e - (j * n + (j + 1))) (drop (j * n + (j + 1)) s) ≡ take (e - suc j) (get_or (belows_of n s) j [])
+  below_part e l =
       let a : j + 1 ≡ suc j = add-one j in
       let b : j * n + e - (j * n + suc j) ≡ e - suc j = omega arith in
-      rw (a, b, below-is) (sym (take-take (e - suc j) (n - suc j) (drop (j * n + suc j) s) (omega arith)))
+      rw (a, b, below_is) (sym (take-take (e - suc j) (n - suc j) (drop (j * n + suc j) s) (omega arith)))
 
   -- place j, with what `dot` gave of the parts that are lent
-  pub back-law : (full : ℕ) (w : List Float) (x d : Float) → full ≤ n
+  pub back_law : (full : ℕ) (w : List Float) (x d : Float) → full ≤ n
       → x ≡ dot_of (take (j * n + full - (j * n + (j + 1))) (drop (j * n + (j + 1)) s)) (take (full - (j + 1)) (drop (j + 1) w))
       → set w j (div binary64 (sub binary64 (get_or w j nan) x) d)
       ≡ set w j (div binary64 (sub binary64 (get_or w j nan) (dot_of (take (full - suc j) (get_or (belows_of n s) j [])) (take (full - suc j) (drop (suc j) w)))) d)
-  back-law full w x d l e = rw (e, below-part full l, add-one)
+  back_law full w x d l e = rw (e, below_part full l, add-one)
 
 pub back_length : (ds : List Float) (ls : List (List Float)) (bs : List Float) → length ds ≡ length bs → length ls ≡ length bs → length (backward ds ls bs) ≡ length bs
 unfolding backward
@@ -57,17 +57,17 @@ module _ (ds : List Float) (ls : List (List Float)) (ws : List Float) (full : �
       let e : length (take full ds) ≡ full = length-take-le full ds hd in
       rw (drop_of_length-le (take full ds) {i = full} (omega arith)) (sym (take-append-drop full ws))
 
-  done-length : (j : ℕ) → length (backward (drop j (take full ds)) (drop j (take full ls)) (drop j (take full ws))) ≡ full - j
-  done-length j =
+  done_length : (j : ℕ) → length (backward (drop j (take full ds)) (drop j (take full ls)) (drop j (take full ws))) ≡ full - j
+  done_length j =
       let a : length (drop j (take full ws)) ≡ full - j = simp (length-drop, length-take) (omega arith) in
       let b : length (drop j (take full ds)) ≡ full - j = simp (length-drop, length-take) (omega arith) in
       let c : length (drop j (take full ls)) ≡ full - j = simp (length-drop, length-take) (omega arith) in
       back_length (drop j (take full ds)) (drop j (take full ls)) (drop j (take full ws)) (omega arith) (omega arith) ∙ a
 
-  done-cons : (j : ℕ) → j < full → (let xs = backward (drop (suc j) (take full ds)) (drop (suc j) (take full ls)) (drop (suc j) (take full ws)) in
+  done_cons : (j : ℕ) → j < full → (let xs = backward (drop (suc j) (take full ds)) (drop (suc j) (take full ls)) (drop (suc j) (take full ws)) in
       backward (drop j (take full ds)) (drop j (take full ls)) (drop j (take full ws))
       ≡ div binary64 (sub binary64 (get_or ws j nan) (dot_of (take (full - suc j) (get_or ls j [])) xs)) (get_or ds j nan) ∷ xs)
-  done-cons j h =
+  done_cons j h =
       let a : length (take full ws) ≡ full = length-take-le full ws hw in
       let b : length (take full ds) ≡ full = length-take-le full ds hd in
       let c : length (take full ls) ≡ full = length-take-le full ls hl in
@@ -79,20 +79,20 @@ module _ (ds : List Float) (ls : List (List Float)) (ws : List Float) (full : �
         get_or-take full ls j [] h,
         get_or-take full ws j nan h,
       )
-      (back_cons (get_or ds j nan) (drop (suc j) (take full ds)) (get_or ls j []) (drop (suc j) (take full ls)) (get_or ws j nan) (drop (suc j) (take full ws)) (full - suc j) (done-length (suc j)))
+      (back_cons (get_or ds j nan) (drop (suc j) (take full ds)) (get_or ls j []) (drop (suc j) (take full ls)) (get_or ws j nan) (drop (suc j) (take full ws)) (full - suc j) (done_length (suc j)))
 
-  pub back-turn : (w w' : List Float) (i j : ℕ) → j < full → i ≡ suc j → w ≡ backed ds ls ws full i
+  pub back_turn : (w w' : List Float) (i j : ℕ) → j < full → i ≡ suc j → w ≡ backed ds ls ws full i
       → w' ≡ set w j (div binary64 (sub binary64 (get_or w j nan) (dot_of (take (full - suc j) (get_or ls j [])) (take (full - suc j) (drop (suc j) w)))) (get_or ds j nan))
       → w' ≡ backed ds ls ws full j
-  back-turn w w' i j h g e f =
+  back_turn w w' i j h g e f =
       let xs = backward (drop (suc j) (take full ds)) (drop (suc j) (take full ls)) (drop (suc j) (take full ws)) in
       let p : length (take (suc j) ws) ≡ suc j = length-take-le (suc j) ws (omega arith) in
       let r : length (take j ws) ≡ j = length-take-le j ws (omega arith) in
       let v : w ≡ take (suc j) ws ++ (xs ++ drop full ws) = e ∙ ap (backed ds ls ws full) g in
       let a : get_or w j nan ≡ get_or ws j nan = ap (λ (x : List Float). get_or x j nan) v ∙ get_or-append (take (suc j) ws) (xs ++ drop full ws) nan j (omega arith) ∙ get_or-take (suc j) ws j nan (le_refl (suc j)) in
-      let b : take (full - suc j) (drop (suc j) w) ≡ xs = ap (λ (x : List Float). take (full - suc j) (drop (suc j) x)) v ∙ ap (take (full - suc j)) (drop_at (take (suc j) ws) (xs ++ drop full ws) (suc j) p) ∙ take_at xs (drop full ws) (full - suc j) (done-length (suc j)) in
+      let b : take (full - suc j) (drop (suc j) w) ≡ xs = ap (λ (x : List Float). take (full - suc j) (drop (suc j) x)) v ∙ ap (take (full - suc j)) (drop_at (take (suc j) ws) (xs ++ drop full ws) (suc j) p) ∙ take_at xs (drop full ws) (full - suc j) (done_length (suc j)) in
       let u : w ≡ take j ws ++ (get_or ws j nan ∷ (xs ++ drop full ws)) = v ∙ ap (λ (x : List Float). x ++ (xs ++ drop full ws)) (take-suc ws j nan (omega arith)) ∙ append_snoc (take j ws) (get_or ws j nan) (xs ++ drop full ws) in
-      f ∙ rw (a, b) (rw (u, set_at (take j ws) (get_or ws j nan) (xs ++ drop full ws) (div binary64 (sub binary64 (get_or ws j nan) (dot_of (take (full - suc j) (get_or ls j [])) xs)) (get_or ds j nan)) j r, done-cons j h))
+      f ∙ rw (a, b) (rw (u, set_at (take j ws) (get_or ws j nan) (xs ++ drop full ws) (div binary64 (sub binary64 (get_or ws j nan) (dot_of (take (full - suc j) (get_or ls j [])) xs)) (get_or ds j nan)) j r, done_cons j h))
 
 pub back_end : (ds : List Float) (ls : List (List Float)) (ws w : List Float) (full j : ℕ) → j ≤ 0 → w ≡ backed ds ls ws full j
     → w ≡ backward (take full ds) (take full ls) (take full ws) ++ drop full ws

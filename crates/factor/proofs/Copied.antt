@@ -33,9 +33,9 @@ module _ {m n : ℕ} (i : Inside m n) (store w : List Float) (z : Sized n store)
       ap (λ (r : Read). r.out) (e ∙ lent_passed 1 n store w xs (tests_passed 1 n store (length w) (one_row i) z (omega arith)))
       ∙ written_whole xs w (l ∙ sym h)
 
-  pub qtb-copied : {d : Reply (Unit {0})} {o : List Float} → read d o ≡ qtb_in n store w → o ≡ (load n store).qtb
+  pub qtb_copied : {d : Reply (Unit {0})} {o : List Float} → read d o ≡ qtb_in n store w → o ≡ (load n store).qtb
   unfolding qtb_in
-  qtb-copied e = copied (load n store).qtb (load_shaped n store z).qtb_long e
+  qtb_copied e = copied (load n store).qtb (load_shaped n store z).qtb_long e
 
   pub norms-copied : {d : Reply (Unit {0})} {o : List Float} → read d o ≡ norms_in n store w → o ≡ (load n store).norms
   unfolding norms_in

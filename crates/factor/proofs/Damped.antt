@@ -19,7 +19,7 @@ use Rattle.eliminate.specs.inner.Edges.{Eliminates}
 use Rattle.eliminate.proofs.Lent.{eliminates}
 use Rattle.factor.specs.Solves.{damped_room, damped_numbers}
 use Rattle.factor.specs.PivotOrder.{lowered}
-use Rattle.factor.proofs.Layouts.{square_upper, square_of_lem, laid, load_shaped, leaving-shaped, load-lay}
+use Rattle.factor.proofs.Layouts.{square_upper, square_of_lem, laid, load_shaped, leaving_shaped, load-lay}
 use Rattle.factor.proofs.Lent.{with_square, square_lent, square_leaving}
 use Rattle.factor.specs.inner.Rooms.{Sized, Shaped, with_part}
 
@@ -42,7 +42,7 @@ pub left_loaded : (n : ℕ) (s l : List Float) {s' : List Float} → Sized n s �
     → load n s' ≡ leaving (load n s).below l (load n s)
 left_loaded n s l z h e =
     let r = load_shaped n s z in
-    ap (λ (x : List Float). load n x) e ∙ load-lay n _ (leaving-shaped n (load n s) r (load n s).below l r.below_wide r.below_tall h)
+    ap (λ (x : List Float). load n x) e ∙ load-lay n _ (leaving_shaped n (load n s) r (load n s).below l r.below_wide r.below_tall h)
 
 -- ---- elimination on the lent square, with qt_b as right side
 abbrev pub damping_of : ℕ → List Float → List Float → Rows
@@ -64,35 +64,35 @@ module _ (n : ℕ) (ds s t w w' l₀ l : List Float) {d : Reply (Unit {0})} (p :
   unfolding load
   same_rows = rw (q, square_upper n s)
 
-  below-is : belows_of n t ≡ tails (damping_of n ds s).0
-  below-is = works.below ∙ ap (λ (x : Rows). tails x.0) same_rows
+  below_is : belows_of n t ≡ tails (damping_of n ds s).0
+  below_is = works.below ∙ ap (λ (x : Rows). tails x.0) same_rows
 
-  diagonal-is : l ≡ heads (damping_of n ds s).0
-  diagonal-is = works.diagonal ∙ ap (λ (x : Rows). heads x.0) same_rows
+  diagonal_is : l ≡ heads (damping_of n ds s).0
+  diagonal_is = works.diagonal ∙ ap (λ (x : Rows). heads x.0) same_rows
 
   right_is : w' ≡ (damping_of n ds s).1
   right_is = works.right ∙ ap (λ (x : Rows). x.1) same_rows
 
   -- LAW: the room that is left
-  pub room-left : {s' : List Float} → length l ≡ n
+  pub room_left : {s' : List Float} → length l ≡ n
       → s' ≡ lay (leaving (load n (t ++ drop (n * n) s)).below l (load n (t ++ drop (n * n) s))) → load n s' ≡ damped_room (damping_of n ds s) (load n s)
   unfolding damped_room
-  room-left k g =
+  room_left k g =
       left_loaded n (t ++ drop (n * n) s) l (sized_lent n t s sized e) k g ∙ square_leaving n t s l sized e works.upper
-      ∙ ap (λ (x : List (List Float)). leaving x l (load n s)) below-is ∙ ap (λ (x : List Float). leaving (tails (damping_of n ds s).0) x (load n s)) diagonal-is
+      ∙ ap (λ (x : List (List Float)). leaving x l (load n s)) below_is ∙ ap (λ (x : List Float). leaving (tails (damping_of n ds s).0) x (load n s)) diagonal_is
 
   -- LAW: the room that is left, but for work
-  pub room-lowered : (s' : List Float) → load n s' ≡ with_part 2 l (load n (t ++ drop (n * n) s)) → load n s' ≡ lowered (damping_of n ds s) (load n s)
+  pub room_lowered : (s' : List Float) → load n s' ≡ with_part 2 l (load n (t ++ drop (n * n) s)) → load n s' ≡ lowered (damping_of n ds s) (load n s)
   unfolding lowered with_part
-  room-lowered s' g =
-      g ∙ ap (λ (r : Room). with_part 2 l r) (square_lent n t s sized e (works.upper ∙ square_upper n s) below-is)
-      ∙ ap (λ (x : List Float). with_part 2 x (with_square (load n s).upper (tails (damping_of n ds s).0) (load n s))) diagonal-is
+  room_lowered s' g =
+      g ∙ ap (λ (r : Room). with_part 2 l r) (square_lent n t s sized e (works.upper ∙ square_upper n s) below_is)
+      ∙ ap (λ (x : List Float). with_part 2 x (with_square (load n s).upper (tails (damping_of n ds s).0) (load n s))) diagonal_is
 
   -- LAW: and the step
   pub step_left : {x : List Float} → x ≡ damped_solved l (belows_of n (take (n * n) (t ++ drop (n * n) s))) w' → x ≡ damped_numbers (damping_of n ds s)
   step_left g =
       g ∙ ap (λ (y : List Float). damped_solved l (belows_of n y) w') (take_at t (drop (n * n) s) (n * n) (e ∙ (square_of_lem n s sized).whole))
-      ∙ ap (λ (y : List (List Float)). damped_solved l y w') below-is ∙ ap (λ (y : List Float). damped_solved y (tails (damping_of n ds s).0) w') diagonal-is
+      ∙ ap (λ (y : List (List Float)). damped_solved l y w') below_is ∙ ap (λ (y : List Float). damped_solved y (tails (damping_of n ds s).0) w') diagonal_is
       ∙ ap (λ (y : List Float). damped_solved (heads (damping_of n ds s).0) (tails (damping_of n ds s).0) y) right_is
 
 -- ---- 8 after elimination: emptied, it is the room from before, emptied
@@ -119,8 +119,8 @@ room_emptied n l s s' z z' e =
 -- ---- the damped solve with its diagonal in pivot order, laid out
 module _ (n : ℕ) (os : List ℕ) (diag s ds s' w : List Float) (g : ds ≡ gather os diag)
     (h : load n s' ≡ damped_room (damping_of n ds s) (load n s)) (k : w ≡ damped_numbers (damping_of n ds s)) where
-  step-as : w ≡ damped_numbers (damping_of n (gather os diag) s)
-  step-as = k ∙ ap (λ (x : List Float). damped_numbers (damping_of n x s)) g
+  step_as : w ≡ damped_numbers (damping_of n (gather os diag) s)
+  step_as = k ∙ ap (λ (x : List Float). damped_numbers (damping_of n x s)) g
 
   room_as : load n s' ≡ damped_room (damping_of n (gather os diag) s) (load n s)
   room_as = h ∙ ap (λ (x : List Float). damped_room (damping_of n x s) (load n s)) g
@@ -128,11 +128,11 @@ module _ (n : ℕ) (os : List ℕ) (diag s ds s' w : List Float) (g : ds ≡ gat
   pub damped-store : s' ≡ lay (damped_room (damping_of n (gather os diag) s) (load n s))
   damped-store = laid n s' room_as
 
-  pub damped-out : (out : List Float) {out' : List Float} → out' ≡ scatter os w out → out' ≡ scatter os (damped_numbers (damping_of n (gather os diag) s)) out
-  damped-out out e = scattered os out e step-as
+  pub damped_out : (out : List Float) {out' : List Float} → out' ≡ scatter os w out → out' ≡ scatter os (damped_numbers (damping_of n (gather os diag) s)) out
+  damped_out out e = scattered os out e step_as
 
-  pub damped-finite : {b : Bool} → b ≡ all_finite w → b ≡ all_finite (damped_numbers (damping_of n (gather os diag) s))
-  damped-finite e = finite_of e step-as
+  pub damped_finite : {b : Bool} → b ≡ all_finite w → b ≡ all_finite (damped_numbers (damping_of n (gather os diag) s))
+  damped_finite e = finite_of e step_as
 
   pub damped-emptied : {s'' : List Float} → Sized n s → Sized n s' → s'' ≡ lay (emptied (load n s')) → s'' ≡ lay (emptied (load n s))
   damped-emptied z z' e = e ∙ ap lay (room_emptied n (damping_of n (gather os diag) s) s s' z z' room_as)

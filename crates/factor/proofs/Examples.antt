@@ -40,7 +40,7 @@ pub examples :
 unfolding opened
 examples = (refl, refl, refl, refl)
 
-pub in-pivot-order :
+pub in_pivot-order :
     ((zero_in 1 2 H.store (junk 2)).out ≡ w 2 ∷ w 0 ∷ [])
     × ((damped_in 2 (w 0 ∷ w 0 ∷ []) H.store (junk 2)).out ≡ w 2 ∷ w 0 ∷ [])
     × ((product_in 2 H.store (junk 2)).out ≡ w 32 ∷ w 24 ∷ [])
@@ -49,4 +49,4 @@ pub in-pivot-order :
     × ((zero_in 1 2 H.store (junk 1)).reply ≡ refused 3)
     × ((zero_in 0 2 H.store (junk 2)).reply ≡ refused 2)
 unfolding opened
-in-pivot-order = (refl, refl, refl, refl, refl, refl, refl)
+in_pivot-order = (refl, refl, refl, refl, refl, refl, refl)

@@ -29,22 +29,22 @@ use Rattle.factor.specs.inner.Rooms.{Sized}
 
 -- ---- on the lent square and the copied parts
 module _ (n : ℕ) (s : List Float) where
-  pub zero-solves : (w : List Float) {x : List Float} → x ≡ forward_upper [] (uppers_of n (take (n * n) s)) w → x ≡ held_solved held.Zero w (load n s)
+  pub zero_solves : (w : List Float) {x : List Float} → x ≡ forward_upper [] (uppers_of n (take (n * n) s)) w → x ≡ held_solved held.Zero w (load n s)
   unfolding held_solved
-  zero-solves w h = h ∙ ap (λ (u : List (List Float)). forward_upper [] u w) (square_upper n s)
+  zero_solves w h = h ∙ ap (λ (u : List (List Float)). forward_upper [] u w) (square_upper n s)
 
-  pub damped-solves : (w : List Float) {d x : List Float} → d ≡ part n 2 s → x ≡ forward_lower d (belows_of n (take (n * n) s)) w → x ≡ held_solved held.Damped w (load n s)
+  pub damped_solves : (w : List Float) {d x : List Float} → d ≡ part n 2 s → x ≡ forward_lower d (belows_of n (take (n * n) s)) w → x ≡ held_solved held.Damped w (load n s)
   unfolding held_solved load
-  damped-solves w e h = h ∙ rw (e, square_below n s)
+  damped_solves w e h = h ∙ rw (e, square_below n s)
 
-  pub zero-multiplies : {q x : List Float} → q ≡ part n 0 s → x ≡ mul_upper q (uppers_of n (take (n * n) s)) → x ≡ held_product_of held.Zero (load n s)
+  pub zero_multiplies : {q x : List Float} → q ≡ part n 0 s → x ≡ mul_upper q (uppers_of n (take (n * n) s)) → x ≡ held_product_of held.Zero (load n s)
   unfolding held_product_of load
-  zero-multiplies e h = h ∙ rw (e, square_upper n s)
+  zero_multiplies e h = h ∙ rw (e, square_upper n s)
 
-  pub damped-multiplies : {q d x : List Float} → Sized n s → q ≡ part n 0 s → d ≡ part n 2 s → x ≡ mul_lower q d (belows_of n (take (n * n) s)) (zeros n)
+  pub damped_multiplies : {q d x : List Float} → Sized n s → q ≡ part n 0 s → d ≡ part n 2 s → x ≡ mul_lower q d (belows_of n (take (n * n) s)) (zeros n)
       → x ≡ held_product_of held.Damped (load n s)
   unfolding held_product_of load
-  damped-multiplies z e g h = h ∙ rw (e, g, square_below n s, (load_shaped n s z).qtb_long)
+  damped_multiplies z e g h = h ∙ rw (e, g, square_below n s, (load_shaped n s z).qtb_long)
 
 -- ---- neither can be held where the tests are passed
 pub never_empty : {X : Type 0} {h : Held} → h ≡ held.Empty → is_empty h ≡ false → X
@@ -59,12 +59,12 @@ written_by w out h = ap (λ (l : List Float). l ++ drop (length w) out) h
 
 -- ---- one more test after a list that is tested already
 module _ (ts : List Test) (t : Test) {c : ℕ} (q : numbered ts ≡ true) (e : c ≡ first_of ts) (z : c ≡ 0) where
-  pub further-met : t.0 ≡ true → t.1 ≡ first_of (ts ++ (t ∷ []))
-  further-met h = sym (went_on ts (t ∷ []) c q e z ∙ test_met t [] h)
+  pub further_met : t.0 ≡ true → t.1 ≡ first_of (ts ++ (t ∷ []))
+  further_met h = sym (went_on ts (t ∷ []) c q e z ∙ test_met t [] h)
 
-  pub further-passed : t.0 ≡ false → 0 ≡ first_of (ts ++ (t ∷ []))
+  pub further_passed : t.0 ≡ false → 0 ≡ first_of (ts ++ (t ∷ []))
   unfolding first_of
-  further-passed h = sym (went_on ts (t ∷ []) c q e z ∙ test_passed t [] h)
+  further_passed h = sym (went_on ts (t ∷ []) c q e z ∙ test_passed t [] h)
 
 -- ---- what is known once the tests are passed
 held_passed : (st : State) (store : ℕ) (order : List ℕ) (shortest : ℕ) (us : List Test) → numbered us ≡ true
@@ -122,8 +122,8 @@ rested-refused st r x out h = rw (sym h, rested_if)
 
 -- ---- each call by its tests
 module _ (st : State) (order : List ℕ) (rhs store out : List Float) (c : ℕ) where
-  abbrev solve-all-ts : List Test
-  solve-all-ts = solve_tests st (length store) order (min (length rhs) (length out)) ++ (held_test st ∷ finite_test st rhs ∷ [])
+  abbrev solve_all_ts : List Test
+  solve_all_ts = solve_tests st (length store) order (min (length rhs) (length out)) ++ (held_test st ∷ finite_test st rhs ∷ [])
 
   abbrev answer : List Float
   answer = held_solved st.held (gather (take st.n order) rhs) (load st.n store)
@@ -131,23 +131,23 @@ module _ (st : State) (order : List ℕ) (rhs store out : List Float) (c : ℕ) 
   abbrev left : List Float
   left = lay (rested (load st.n store))
 
-  pub solve-refused : c ≡ first_of solve-all-ts → (c ≡ 0 → ⊥) → ended (refused c) st store out ≡ solve_call st order rhs store out
+  pub solve-refused : c ≡ first_of solve_all_ts → (c ≡ 0 → ⊥) → ended (refused c) st store out ≡ solve_call st order rhs store out
   unfolding solve_call
-  solve-refused e h = call-refused _ (λ (k : ℕ). ended (refused k) st store out) solve-all-ts c (sym e) (ne_eqb c 0 h)
+  solve-refused e h = call-refused _ (λ (k : ℕ). ended (refused k) st store out) solve_all_ts c (sym e) (ne_eqb c 0 h)
 
-  pub solve-answered : {s o : List Float} → c ≡ first_of solve-all-ts → c ≡ 0 → true ≡ all_finite answer → s ≡ left → o ≡ written answer out
+  pub solve-answered : {s o : List Float} → c ≡ first_of solve_all_ts → c ≡ 0 → true ≡ all_finite answer → s ≡ left → o ≡ written answer out
       → ended (answered tt) st s o ≡ solve_call st order rhs store out
   unfolding solve_call
-  solve-answered e z t f g = rw (f, g) (rested-answered st (load st.n store) answer out t ∙ call-worked _ (λ (k : ℕ). ended (refused k) st store out) solve-all-ts (sym e ∙ z))
+  solve-answered e z t f g = rw (f, g) (rested-answered st (load st.n store) answer out t ∙ call-worked _ (λ (k : ℕ). ended (refused k) st store out) solve_all_ts (sym e ∙ z))
 
-  pub solve-refused-8 : {s o : List Float} → c ≡ first_of solve-all-ts → c ≡ 0 → false ≡ all_finite answer → s ≡ left → o ≡ out
+  pub solve-refused_8 : {s o : List Float} → c ≡ first_of solve_all_ts → c ≡ 0 → false ≡ all_finite answer → s ≡ left → o ≡ out
       → ended (refused 8) st s o ≡ solve_call st order rhs store out
   unfolding solve_call
-  solve-refused-8 e z t f g = rw (f, g) (rested-refused st (load st.n store) answer out t ∙ call-worked _ (λ (k : ℕ). ended (refused k) st store out) solve-all-ts (sym e ∙ z))
+  solve-refused_8 e z t f g = rw (f, g) (rested-refused st (load st.n store) answer out t ∙ call-worked _ (λ (k : ℕ). ended (refused k) st store out) solve_all_ts (sym e ∙ z))
 
 module _ (st : State) (store out : List Float) (c : ℕ) where
-  abbrev mul-ts : List Test
-  mul-ts = room_tests st (length store) (length out) ++ (held_test st ∷ [])
+  abbrev mul_ts : List Test
+  mul_ts = room_tests st (length store) (length out) ++ (held_test st ∷ [])
 
   abbrev product : List Float
   product = held_product_of st.held (load st.n store)
@@ -155,16 +155,16 @@ module _ (st : State) (store out : List Float) (c : ℕ) where
   abbrev kept : List Float
   kept = lay (rested (load st.n store))
 
-  pub mul-refused : c ≡ first_of mul-ts → (c ≡ 0 → ⊥) → ended (refused c) st store out ≡ mul_call st store out
+  pub mul-refused : c ≡ first_of mul_ts → (c ≡ 0 → ⊥) → ended (refused c) st store out ≡ mul_call st store out
   unfolding mul_call
-  mul-refused e h = call-refused _ (λ (k : ℕ). ended (refused k) st store out) mul-ts c (sym e) (ne_eqb c 0 h)
+  mul-refused e h = call-refused _ (λ (k : ℕ). ended (refused k) st store out) mul_ts c (sym e) (ne_eqb c 0 h)
 
-  pub mul-answered : {s o : List Float} → c ≡ first_of mul-ts → c ≡ 0 → true ≡ all_finite product → s ≡ kept → o ≡ written product out
+  pub mul-answered : {s o : List Float} → c ≡ first_of mul_ts → c ≡ 0 → true ≡ all_finite product → s ≡ kept → o ≡ written product out
       → ended (answered tt) st s o ≡ mul_call st store out
   unfolding mul_call
-  mul-answered e z t f g = rw (f, g) (rested-answered st (load st.n store) product out t ∙ call-worked _ (λ (k : ℕ). ended (refused k) st store out) mul-ts (sym e ∙ z))
+  mul-answered e z t f g = rw (f, g) (rested-answered st (load st.n store) product out t ∙ call-worked _ (λ (k : ℕ). ended (refused k) st store out) mul_ts (sym e ∙ z))
 
-  pub mul-refused-8 : {s o : List Float} → c ≡ first_of mul-ts → c ≡ 0 → false ≡ all_finite product → s ≡ kept → o ≡ out
+  pub mul-refused_8 : {s o : List Float} → c ≡ first_of mul_ts → c ≡ 0 → false ≡ all_finite product → s ≡ kept → o ≡ out
       → ended (refused 8) st s o ≡ mul_call st store out
   unfolding mul_call
-  mul-refused-8 e z t f g = rw (f, g) (rested-refused st (load st.n store) product out t ∙ call-worked _ (λ (k : ℕ). ended (refused k) st store out) mul-ts (sym e ∙ z))
+  mul-refused_8 e z t f g = rw (f, g) (rested-refused st (load st.n store) product out t ∙ call-worked _ (λ (k : ℕ). ended (refused k) st store out) mul_ts (sym e ∙ z))

@@ -9,8 +9,8 @@ use lib.Ieee.{Float}
 use Rattle.leaves.specs.Number.{plus_zero}
 use Rattle.factor.specs.Room.{Room, part, load, lay, leaving, rested, emptied}
 use Rattle.leaves.specs.Square.{uppers_from, belows_from, uppers_of, belows_of, joined, zeros, cleared}
-use Rattle.leaves.proofs.Splices.{part_long, part-rest, drop_past}
-use Rattle.leaves.proofs.Squares.{uppers_of-length, belows_of-length, upper_long, below-long}
+use Rattle.leaves.proofs.Splices.{part_long, part_rest, drop_past}
+use Rattle.leaves.proofs.Squares.{uppers_of-length, belows_of-length, upper_long, below_long}
 use Rattle.leaves.proofs.Joined.{Tall, belows_joined, cleared_tall, cleared-wide, columns_front, joined-columns, joined_long, uppers-joined}
 use Rattle.leaves.specs.inner.Squares.{Square}
 use Rattle.factor.specs.inner.Rooms.{Sized, Shaped}
@@ -47,10 +47,10 @@ lay-load n s =
     let z : n * n + 0 * n ≡ n * n = omega arith in
     rw (
       joined-columns n n 0 s,
-      part-rest (n * n + 3 * n) n {b = n * n + 4 * n} s (omega arith),
-      part-rest (n * n + 2 * n) n {b = n * n + 3 * n} s (omega arith),
-      part-rest (n * n + 1 * n) n {b = n * n + 2 * n} s (omega arith),
-      part-rest (n * n + 0 * n) n {b = n * n + 1 * n} s (omega arith),
+      part_rest (n * n + 3 * n) n {b = n * n + 4 * n} s (omega arith),
+      part_rest (n * n + 2 * n) n {b = n * n + 3 * n} s (omega arith),
+      part_rest (n * n + 1 * n) n {b = n * n + 2 * n} s (omega arith),
+      part_rest (n * n + 0 * n) n {b = n * n + 1 * n} s (omega arith),
       z,
     )
     (take-append-drop (n * n) s)
@@ -70,7 +70,7 @@ load_shaped n s z =
       upper_wide = uppers_of-length n s;
       upper_tall = λ k h. rw (← square_upper n s) (upper_long n (take (n * n) s) q k h);
       below_wide = belows_of-length n s;
-      below_tall = λ k h. rw (← square_below n s) (below-long n (take (n * n) s) q k h);
+      below_tall = λ k h. rw (← square_below n s) (below_long n (take (n * n) s) q k h);
       qtb_long = part_long (n * n + 0 * n) n s (omega arith);
       norms_long = part_long (n * n + 1 * n) n s (omega arith);
       ldiag_long = part_long (n * n + 2 * n) n s (omega arith);
@@ -79,10 +79,10 @@ load_shaped n s z =
 
 -- what calls leave is shaped where what they put in is
 module _ (n : ℕ) (r : Room) (z : Shaped n r) where
-  pub leaving-shaped : (ls : List (List Float)) (l : List Float) → length ls ≡ n → ((k : ℕ) → k < n → length (get_or ls k []) ≡ n - suc k) → length l ≡ n
+  pub leaving_shaped : (ls : List (List Float)) (l : List Float) → length ls ≡ n → ((k : ℕ) → k < n → length (get_or ls k []) ≡ n - suc k) → length l ≡ n
       → Shaped n (leaving ls l r)
   unfolding leaving
-  leaving-shaped ls l w t e = record {
+  leaving_shaped ls l w t e = record {
     upper_wide = z.upper_wide;
     upper_tall = z.upper_tall;
     below_wide = w;
@@ -93,12 +93,12 @@ module _ (n : ℕ) (r : Room) (z : Shaped n r) where
     work_long = length-replicate (length r.work) plus_zero ∙ z.work_long;
   }
 
-  pub rested-shaped : Shaped n (rested r)
-  rested-shaped = leaving-shaped r.below r.ldiag z.below_wide z.below_tall z.ldiag_long
+  pub rested_shaped : Shaped n (rested r)
+  rested_shaped = leaving_shaped r.below r.ldiag z.below_wide z.below_tall z.ldiag_long
 
-  pub emptied-shaped : Shaped n (emptied r)
-  emptied-shaped =
-      leaving-shaped (cleared r.below) (zeros (length r.ldiag)) (cleared-wide r.below ∙ z.below_wide)
+  pub emptied_shaped : Shaped n (emptied r)
+  emptied_shaped =
+      leaving_shaped (cleared r.below) (zeros (length r.ldiag)) (cleared-wide r.below ∙ z.below_wide)
       (λ k h. cleared_tall r.below k ∙ z.below_tall k h) (length-replicate (length r.ldiag) plus_zero ∙ z.ldiag_long)
 
 -- ---- load n (lay r) ≡ r

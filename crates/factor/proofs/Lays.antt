@@ -49,35 +49,35 @@ column_size m k c d l = go (ltb k m) refl
 -- ---- the square of R and +0 below it
 
 module _ (m n : ℕ) where
-  piece-size : (k p : ℕ) (c : List Float) (d : Float) → k + suc p ≡ n → length c ≡ m → length (upper_column m k c d ++ zeros p) ≡ n
-  piece-size k p c d e l =
+  piece_size : (k p : ℕ) (c : List Float) (d : Float) → k + suc p ≡ n → length c ≡ m → length (upper_column m k c d ++ zeros p) ≡ n
+  piece_size k p c d e l =
       length-append (upper_column m k c d) (zeros p) ∙ (let a = column_size m k c d l in let b : length (zeros p) ≡ p = length-replicate p plus_zero in omega arith)
 
-  pub square-long : (k p : ℕ) (cs : List (List Float)) (ds : List Float) → k + p ≡ n → length cs ≡ p → length ds ≡ p
+  pub square_long : (k p : ℕ) (cs : List (List Float)) (ds : List Float) → k + p ≡ n → length cs ≡ p → length ds ≡ p
       → ((l : ℕ) → l < p → length (get_or cs l []) ≡ m) → length (joined (uppers m k cs ds) (no_lower p)) ≡ p * n
   unfolding joined uppers no_lower
-  square-long k zero [] ds e hc hd f = sym (zero-mul n)
-  square-long k zero (c ∷ cs) ds e hc hd f = absurd (omega arith)
-  square-long k (suc p) [] ds e hc hd f = absurd (omega arith)
-  square-long k (suc p) (c ∷ cs) [] e hc hd f = absurd (omega arith)
-  square-long k (suc p) (c ∷ cs) (d ∷ ds) e hc hd f =
-      let a = piece-size k p c d e (f 0 (omega arith)) in
-      let r = square-long (suc k) p cs ds (omega arith) (omega arith) (omega arith) (λ l h. f (suc l) (omega arith)) in
+  square_long k zero [] ds e hc hd f = sym (zero-mul n)
+  square_long k zero (c ∷ cs) ds e hc hd f = absurd (omega arith)
+  square_long k (suc p) [] ds e hc hd f = absurd (omega arith)
+  square_long k (suc p) (c ∷ cs) [] e hc hd f = absurd (omega arith)
+  square_long k (suc p) (c ∷ cs) (d ∷ ds) e hc hd f =
+      let a = piece_size k p c d e (f 0 (omega arith)) in
+      let r = square_long (suc k) p cs ds (omega arith) (omega arith) (omega arith) (λ l h. f (suc l) (omega arith)) in
       length-append (upper_column m k c d ++ zeros p) (joined (uppers m (suc k) cs ds) (no_lower p)) ∙ omega (arith, suc-mul p n)
 
-  pub square-chunk : (k p : ℕ) (cs : List (List Float)) (ds : List Float) (i : ℕ) → k + p ≡ n → length cs ≡ p → length ds ≡ p
+  pub square_chunk : (k p : ℕ) (cs : List (List Float)) (ds : List Float) (i : ℕ) → k + p ≡ n → length cs ≡ p → length ds ≡ p
       → ((l : ℕ) → l < p → length (get_or cs l []) ≡ m) → i < p
       → take n (drop (i * n) (joined (uppers m k cs ds) (no_lower p))) ≡ upper_column m (k + i) (get_or cs i []) (get_or ds i nan) ++ zeros (p - suc i)
   unfolding joined uppers no_lower
-  square-chunk k zero cs ds i e hc hd f h = absurd (not-suc-le-zero h)
-  square-chunk k (suc p) [] ds i e hc hd f h = absurd (omega arith)
-  square-chunk k (suc p) (c ∷ cs) [] i e hc hd f h = absurd (omega arith)
-  square-chunk k (suc p) (c ∷ cs) (d ∷ ds) zero e hc hd f h =
+  square_chunk k zero cs ds i e hc hd f h = absurd (not-suc-le-zero h)
+  square_chunk k (suc p) [] ds i e hc hd f h = absurd (omega arith)
+  square_chunk k (suc p) (c ∷ cs) [] i e hc hd f h = absurd (omega arith)
+  square_chunk k (suc p) (c ∷ cs) (d ∷ ds) zero e hc hd f h =
       let z : 0 * n ≡ 0 = zero-mul n in
       let q : k + 0 ≡ k = omega arith in
       let s : suc p - 1 ≡ p = omega arith in
-      rw (z, q, s) (take_at (upper_column m k c d ++ zeros p) (joined (uppers m (suc k) cs ds) (no_lower p)) n (piece-size k p c d e (f 0 (omega arith))))
-  square-chunk k (suc p) (c ∷ cs) (d ∷ ds) (suc i) e hc hd f h =
+      rw (z, q, s) (take_at (upper_column m k c d ++ zeros p) (joined (uppers m (suc k) cs ds) (no_lower p)) n (piece_size k p c d e (f 0 (omega arith))))
+  square_chunk k (suc p) (c ∷ cs) (d ∷ ds) (suc i) e hc hd f h =
       let z : suc i * n ≡ n + i * n = suc-mul i n ∙ add_comm (i * n) n in
       let q : k + suc i ≡ suc k + i = omega arith in
       let s : suc p - suc (suc i) ≡ p - suc i = omega arith in
@@ -86,9 +86,9 @@ module _ (m n : ℕ) where
         q,
         s,
         ← drop-drop (i * n) n ((upper_column m k c d ++ zeros p) ++ joined (uppers m (suc k) cs ds) (no_lower p)),
-        drop_at (upper_column m k c d ++ zeros p) (joined (uppers m (suc k) cs ds) (no_lower p)) n (piece-size k p c d e (f 0 (omega arith))),
+        drop_at (upper_column m k c d ++ zeros p) (joined (uppers m (suc k) cs ds) (no_lower p)) n (piece_size k p c d e (f 0 (omega arith))),
       )
-      (square-chunk (suc k) p cs ds i (omega arith) (omega arith) (omega arith) (λ l g. f (suc l) (omega arith)) (le_of_suc-le-suc h))
+      (square_chunk (suc k) p cs ds i (omega arith) (omega arith) (omega arith) (λ l g. f (suc l) (omega arith)) (le_of_suc-le-suc h))
 
 -- ---- the square, written column by column
 pub column_laid : (m n k : ℕ) (d : Float) (col c s y : List Float) (from w : ℕ) → from ≡ k * n → w ≡ n → k * n + n ≤ length s → col ≡ c → length c ≡ m
@@ -97,14 +97,14 @@ column_laid m n k d col c s y from w ef ew h ec l ey = rw (ey, ec, l, ef, ew, pa
 
 module _ (m n : ℕ) (cs : List (List Float)) (ds : List Float) (lc : length cs ≡ n) (ld : length ds ≡ n) (long : (l : ℕ) → l < n → length (get_or cs l []) ≡ m) where
   pub whole_long : length (joined (uppers m 0 cs ds) (no_lower n)) ≡ n * n
-  whole_long = square-long m n 0 n cs ds (zero-add n) lc ld long
+  whole_long = square_long m n 0 n cs ds (zero-add n) lc ld long
 
-  pub lay-turn : (k : ℕ) (c s s' s₀ : List Float) → k < n → c ≡ get_or cs k [] → s ≡ over (k * n) (joined (uppers m 0 cs ds) (no_lower n)) s₀
+  pub lay_turn : (k : ℕ) (c s s' s₀ : List Float) → k < n → c ≡ get_or cs k [] → s ≡ over (k * n) (joined (uppers m 0 cs ds) (no_lower n)) s₀
       → s' ≡ patch (k * n) n s (upper_column m k c (get_or ds k nan) ++ zeros (n - suc k)) → s' ≡ over ((k + 1) * n) (joined (uppers m 0 cs ds) (no_lower n)) s₀
-  lay-turn k c s s' s₀ h ec es e =
+  lay_turn k c s s' s₀ h ec es e =
       let t : List Float = joined (uppers m 0 cs ds) (no_lower n) in
       let z : 0 + k ≡ k = zero-add k in
-      let x : take n (drop (k * n) t) ≡ upper_column m k (get_or cs k []) (get_or ds k nan) ++ zeros (n - suc k) = rw z at (square-chunk m n 0 n cs ds k (zero-add n) lc ld long h) in
+      let x : take n (drop (k * n) t) ≡ upper_column m k (get_or cs k []) (get_or ds k nan) ++ zeros (n - suc k) = rw z at (square_chunk m n 0 n cs ds k (zero-add n) lc ld long h) in
       let q : (k + 1) * n ≡ k * n + n = rw add-one (suc-mul k n) in
       let fit : k * n ≤ length t = let f = column_fits k n n h in let l = whole_long in omega arith in
       e ∙ rw (es, ec, ← x, q) (over_chunk (k * n) n t s₀ fit)

@@ -28,8 +28,8 @@ module _ (m n : ℕ) (store : List Float) (shortest : ℕ) {c : ℕ} (e : c ≡ 
   pub cols_few : n ≤ 16
   cols_few = fit.sizes.cols_few
 
-  pub store-sized : Sized n store
-  store-sized = fit_sized m n store shortest fit
+  pub store_sized : Sized n store
+  store_sized = fit_sized m n store shortest fit
 
   pub each_long : n ≤ shortest
   each_long = fit.each_long

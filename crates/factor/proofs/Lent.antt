@@ -18,8 +18,8 @@ use Rattle.leaves.specs.Triangle.{columns}
 use Rattle.leaves.proofs.Triangles.{column_fits}
 use Rattle.factor.specs.Room.{Room, part, load, leaving, rested, emptied}
 use Rattle.leaves.specs.Square.{uppers_of, belows_of, zeros, cleared}
-use Rattle.leaves.proofs.Splices.{splice, splice-twice, lent, filled, part_long, drop-front, drop-take, splice-length, splice-take, splice-before, splice_at, splice-drop}
-use Rattle.leaves.proofs.Squares.{uppers_of-length, belows_of-length, column-end, upper-at, below_at}
+use Rattle.leaves.proofs.Splices.{splice, splice_twice, lent, filled, part_long, drop_front, drop-take, splice_length, splice_take, splice_before, splice_at, splice_drop}
+use Rattle.leaves.proofs.Squares.{uppers_of-length, belows_of-length, column_end, upper_at, below_at}
 use Rattle.leaves.proofs.Joined.{columns-same}
 use Rattle.factor.proofs.Layouts.{square_upper, square_of_lem}
 use Rattle.leaves.specs.inner.Squares.{Square}
@@ -29,22 +29,22 @@ use Rattle.factor.specs.inner.Rooms.{Sized, Shaped, with_part}
 
 -- columns before it
 pub columns_before : (n k a e : ℕ) (y s : List Float) → a + length y ≡ e → e ≤ length s → k * n ≤ a → columns n k (splice a e y s) ≡ columns n k s
-columns_before n k a e y s l f h = columns-same n k (splice a e y s) s (splice-take a e y s l f (k * n) h)
+columns_before n k a e y s l f h = columns-same n k (splice a e y s) s (splice_take a e y s l f (k * n) h)
 
 module _ (n k : ℕ) (y s : List Float) (l : length y ≡ n) (f : n * n + k * n + n ≤ length s) where
   -- part k is the new one, and the others are as before
-  part-put : (j : ℕ) → part n j (splice (n * n + k * n) (n * n + k * n + n) y s) ≡ cond (eqb k j) y (part n j s)
+  part_put : (j : ℕ) → part n j (splice (n * n + k * n) (n * n + k * n + n) y s) ≡ cond (eqb k j) y (part n j s)
   unfolding part
-  part-put j =
+  part_put j =
       elim (dec_lt k j) [
         | yes h ↦
             let z = column_fits k j n h in
-            rw (ne_eqb k j (λ e. omega arith), splice-drop (n * n + k * n) (n * n + k * n + n) y s (omega arith) f (n * n + j * n) (omega arith))
+            rw (ne_eqb k j (λ e. omega arith), splice_drop (n * n + k * n) (n * n + k * n + n) y s (omega arith) f (n * n + j * n) (omega arith))
         | no h ↦
             elim (dec_lt j k) [
               | yes g ↦
                   let z = column_fits j k n g in
-                  rw (ne_eqb k j (λ e. omega arith), splice-before (n * n + k * n) (n * n + k * n + n) y s (omega arith) f (n * n + j * n) n (omega arith))
+                  rw (ne_eqb k j (λ e. omega arith), splice_before (n * n + k * n) (n * n + k * n + n) y s (omega arith) f (n * n + j * n) n (omega arith))
               | no g ↦
                   let e : j ≡ k = omega arith in
                   rw (e, eq-eqb k k refl, splice_at (n * n + k * n) (n * n + k * n + n) y s (omega arith) f n l)
@@ -56,7 +56,7 @@ module _ (n k : ℕ) (y s : List Float) (l : length y ≡ n) (f : n * n + k * n 
   unfolding load with_part
   load-put h =
       let z = column_fits k 4 n h in
-      rw (columns_before n n (n * n + k * n) (n * n + k * n + n) y s (omega arith) f (omega arith), part-put 0, part-put 1, part-put 2, part-put 3, splice-drop (n * n + k * n) (n * n + k * n + n) y s (omega arith) f (n * n + 4 * n) (omega arith))
+      rw (columns_before n n (n * n + k * n) (n * n + k * n + n) y s (omega arith) f (omega arith), part_put 0, part_put 1, part_put 2, part_put 3, splice_drop (n * n + k * n) (n * n + k * n + n) y s (omega arith) f (n * n + 4 * n) (omega arith))
 
 -- and as the borrow checker has it, read and written
 pub part_read : (n k a : ℕ) (s : List Float) → a ≡ n * n + k * n → take (a + n - a) (drop a s) ≡ part n k s
@@ -85,9 +85,9 @@ last_lent n a y s z e g =
     let b : n * n + 2 * n + n ≡ n * n + 3 * n = omega arith in
     let d : a + 2 * n ≡ n * n + 3 * n + n = omega arith in
     let x : List Float = splice (n * n + 2 * n) (n * n + 3 * n) (zeros n) s in
-    let l : length x ≡ length s = splice-length (n * n + 2 * n) (n * n + 3 * n) (zeros n) s (omega arith) (omega arith) in
+    let l : length x ≡ length s = splice_length (n * n + 2 * n) (n * n + 3 * n) (zeros n) s (omega arith) (omega arith) in
     let one : load n x ≡ with_part 2 (zeros n) (load n s) = rw b at (load-put n 2 (zeros n) s k (omega arith) (omega arith)) in
-    rw (lent a (a + 2 * n) y s (omega arith), d, e, p, splice-twice (n * n + 2 * n) (n * n + 3 * n) (n * n + 3 * n + n) (zeros n) (zeros n) s (omega arith) (omega arith) (omega arith))
+    rw (lent a (a + 2 * n) y s (omega arith), d, e, p, splice_twice (n * n + 2 * n) (n * n + 3 * n) (n * n + 3 * n + n) (zeros n) (zeros n) s (omega arith) (omega arith) (omega arith))
     (load-put n 3 (zeros n) x k (omega arith) (omega arith) ∙ ap (λ (r : Room). with_part 3 (zeros n) r) one)
 
 -- what `copy` leaves of slices of one length
@@ -110,7 +110,7 @@ pub load_square : (n : ℕ) (t s : List Float) → length t ≡ n * n → load n
 unfolding load part
 load_square n t s e =
     let c : columns n n (t ++ drop (n * n) s) ≡ columns n n t = columns-same n n _ t (take-append-le (n * n) t (drop (n * n) s) (omega arith)) in
-    rw (c, drop-front (n * n) (0 * n) t s e, drop-front (n * n) (1 * n) t s e, drop-front (n * n) (2 * n) t s e, drop-front (n * n) (3 * n) t s e, drop-front (n * n) (4 * n) t s e)
+    rw (c, drop_front (n * n) (0 * n) t s e, drop_front (n * n) (1 * n) t s e, drop_front (n * n) (2 * n) t s e, drop_front (n * n) (3 * n) t s e, drop_front (n * n) (4 * n) t s e)
 
 -- and as the borrow checker has it, from what is known of the square
 pub square_lent : (n : ℕ) (t s : List Float) {us ls : List (List Float)} → Sized n s → length t ≡ length (take (n * n) s) → uppers_of n t ≡ us → belows_of n t ≡ ls
@@ -126,49 +126,49 @@ square_leaving n t s l z e u = rw (square_lent n t s z e (u ∙ square_upper n s
 -- ---- the lower end of a column of a square that was lent
 
 module _ (n : ℕ) (s : List Float) (q : Square n s) (k : ℕ) (h : k < n) (y : List Float) (l : length y ≡ n - suc k) where
-  abbrev pub endPut : List Float
-  endPut = splice (k * n + suc k) (k * n + n) y s
+  abbrev pub end_put : List Float
+  end_put = splice (k * n + suc k) (k * n + n) y s
 
   as_long : k * n + suc k + length y ≡ k * n + n
   as_long = omega arith
 
-  pub end-square : Square n endPut
-  end-square = record { small = q.small; whole = splice-length (k * n + suc k) (k * n + n) y s as_long (column-end n s q k h) ∙ q.whole }
+  pub end_square : Square n end_put
+  end_square = record { small = q.small; whole = splice_length (k * n + suc k) (k * n + n) y s as_long (column_end n s q k h) ∙ q.whole }
 
-  past : (j : ℕ) → k < j → drop (j * n) endPut ≡ drop (j * n) s
-  past j p = let z = column_fits k j n p in splice-drop (k * n + suc k) (k * n + n) y s as_long (column-end n s q k h) (j * n) (omega arith)
+  past : (j : ℕ) → k < j → drop (j * n) end_put ≡ drop (j * n) s
+  past j p = let z = column_fits k j n p in splice_drop (k * n + suc k) (k * n + n) y s as_long (column_end n s q k h) (j * n) (omega arith)
 
-  before : (j m : ℕ) → j < k → m ≤ n → take m (drop (j * n) endPut) ≡ take m (drop (j * n) s)
-  before j m p g = let z = column_fits j k n p in splice-before (k * n + suc k) (k * n + n) y s as_long (column-end n s q k h) (j * n) m (omega arith)
+  before : (j m : ℕ) → j < k → m ≤ n → take m (drop (j * n) end_put) ≡ take m (drop (j * n) s)
+  before j m p g = let z = column_fits j k n p in splice_before (k * n + suc k) (k * n + n) y s as_long (column_end n s q k h) (j * n) m (omega arith)
 
-  end-new : drop (suc k) (take n (drop (k * n) endPut)) ≡ y
+  end-new : drop (suc k) (take n (drop (k * n) end_put)) ≡ y
   end-new =
-      drop-take (suc k) n (drop (k * n) endPut)
-      ∙ ap (λ (x : List Float). take (n - suc k) x) (drop-drop (suc k) (k * n) endPut)
-      ∙ splice_at (k * n + suc k) (k * n + n) y s as_long (column-end n s q k h) (n - suc k) l
+      drop-take (suc k) n (drop (k * n) end_put)
+      ∙ ap (λ (x : List Float). take (n - suc k) x) (drop-drop (suc k) (k * n) end_put)
+      ∙ splice_at (k * n + suc k) (k * n + n) y s as_long (column_end n s q k h) (n - suc k) l
 
   -- LAW: R stands
-  pub end-upper : uppers_of n endPut ≡ uppers_of n s
+  pub end-upper : uppers_of n end_put ≡ uppers_of n s
   end-upper =
-      ext_get_or [] _ _ (uppers_of-length n endPut ∙ sym (uppers_of-length n s))
-      (λ j p. let g : j < n = let z = uppers_of-length n endPut in omega arith in
-      rw (upper-at n endPut end-square j g, upper-at n s q j g)
+      ext_get_or [] _ _ (uppers_of-length n end_put ∙ sym (uppers_of-length n s))
+      (λ j p. let g : j < n = let z = uppers_of-length n end_put in omega arith in
+      rw (upper_at n end_put end_square j g, upper_at n s q j g)
       (elim (dec_lt k j) [
         | yes r ↦ rw (past j r)
         | no r ↦ elim (dec_lt j k) [
           | yes t ↦ before j (suc j) t g
           | no t ↦
               let e : j ≡ k = omega arith in
-              rw e (splice-before (k * n + suc k) (k * n + n) y s as_long (column-end n s q k h) (k * n) (suc k) (omega arith))
+              rw e (splice_before (k * n + suc k) (k * n + n) y s as_long (column_end n s q k h) (k * n) (suc k) (omega arith))
         ]
       ]))
 
   -- LAW: and below it the end of column k is the new one
-  pub end_below : belows_of n endPut ≡ set (belows_of n s) k y
+  pub end_below : belows_of n end_put ≡ set (belows_of n s) k y
   end_below =
-      ext_get_or [] _ _ (belows_of-length n endPut ∙ sym (length-set (belows_of n s) k y ∙ belows_of-length n s))
-      (λ j p. let g : j < n = let z = belows_of-length n endPut in omega arith in
-      rw (below_at n endPut end-square j g)
+      ext_get_or [] _ _ (belows_of-length n end_put ∙ sym (length-set (belows_of n s) k y ∙ belows_of-length n s))
+      (λ j p. let g : j < n = let z = belows_of-length n end_put in omega arith in
+      rw (below_at n end_put end_square j g)
       (elim (dec_lt k j) [
         | yes r ↦ rw (past j r, get_or-set_other (belows_of n s) k j y [] (λ e. omega arith), below_at n s q j g)
         | no r ↦ elim (dec_lt j k) [

@@ -116,8 +116,8 @@ module _ (n : ℕ) (order : List ℕ) (h : is_permutation n order ≡ true) (lon
       let e : length (take n order) ≡ n = length-take-le n order long in
       rw (get_or-take n order k 0 l) at (entry_below n (take n order) h k (omega arith))
 
-  pub permutation-onto : (v : ℕ) → v < n → (k : ℕ) × ((k < n) × (get_or order k 0 ≡ v))
-  permutation-onto v l =
+  pub permutation_onto : (v : ℕ) → v < n → (k : ℕ) × ((k < n) × (get_or order k 0 ≡ v))
+  permutation_onto v l =
       let e : length (take n order) ≡ n = length-take-le n order long in
       let p = onto n (take n order) h e v l in
       let q : p.0 < n = omega (arith, p.1.0) in
@@ -153,16 +153,16 @@ module _ (n : ℕ) (order : List ℕ) (xs out : List Float) (h : is_permutation 
   laid = scatter (take n order) xs out
 
   -- entry k stands where the order list says
-  pub scatter-at : n ≤ length xs → n ≤ length out → (k : ℕ) → k < n → get_or laid (get_or order k 0) nan ≡ get_or xs k nan
-  scatter-at l r k p =
+  pub scatter_at : n ≤ length xs → n ≤ length out → (k : ℕ) → k < n → get_or laid (get_or order k 0) nan ≡ get_or xs k nan
+  scatter_at l r k p =
       let e : length (take n order) ≡ n = length-take-le n order long in
       rw (get_or-take n order k 0 p) at (scatter_entry n (take n order) xs out h r (omega arith) k (omega arith))
 
   -- each of the first n places is an entry of the answer: what stood there is overwritten
-  pub scatter-onto : n ≤ length xs → n ≤ length out → (v : ℕ) → v < n → (k : ℕ) × ((k < n) × (get_or laid v nan ≡ get_or xs k nan))
-  scatter-onto l r v p =
-      let q = permutation-onto n order h long v p in
-      (q.0, (q.1.0, rw q.1.1 at (scatter-at l r q.0 q.1.0)))
+  pub scatter_onto : n ≤ length xs → n ≤ length out → (v : ℕ) → v < n → (k : ℕ) × ((k < n) × (get_or laid v nan ≡ get_or xs k nan))
+  scatter_onto l r v p =
+      let q = permutation_onto n order h long v p in
+      (q.0, (q.1.0, rw q.1.1 at (scatter_at l r q.0 q.1.0)))
 
 -- ---- an order list that passed its test
 pub ordered-below : (st : State) (store : ℕ) (order : List ℕ) (shortest : ℕ) → Ordered st store order shortest

@@ -66,17 +66,17 @@ unfolding zero_in
 zero_in_passed m n store w = lent_passed m n store w (zero_of m n store)
 
 module _ (n : ℕ) (store w : List Float) (z : tested 1 n store (length w) ≡ 0) where
-  pub held-zero-in-passed : held_zero_in n store w ≡ read (answered tt) (written (held_of held.Zero n store w) w)
+  pub held_zero_in_passed : held_zero_in n store w ≡ read (answered tt) (written (held_of held.Zero n store w) w)
   unfolding held_zero_in
-  held-zero-in-passed = lent_passed 1 n store w (held_of held.Zero n store w) z
+  held_zero_in_passed = lent_passed 1 n store w (held_of held.Zero n store w) z
 
-  pub held-damped-in-passed : held_damped_in n store w ≡ read (answered tt) (written (held_of held.Damped n store w) w)
+  pub held_damped_in_passed : held_damped_in n store w ≡ read (answered tt) (written (held_of held.Damped n store w) w)
   unfolding held_damped_in
-  held-damped-in-passed = lent_passed 1 n store w (held_of held.Damped n store w) z
+  held_damped_in_passed = lent_passed 1 n store w (held_of held.Damped n store w) z
 
-  pub product-in-passed : product_in n store w ≡ read (answered tt) (written (product_of n store) w)
+  pub product_in_passed : product_in n store w ≡ read (answered tt) (written (product_of n store) w)
   unfolding product_in
-  product-in-passed = lent_passed 1 n store w (product_of n store) z
+  product_in_passed = lent_passed 1 n store w (product_of n store) z
 
 pub damped_in_passed : (n : ℕ) (ds store w : List Float) → tested 1 n store (min (length ds) (length w)) ≡ 0
     → damped_in n ds store w ≡ left_in (answered tt) (lay (lowered (rows_of n ds store) (load n store))) (written (damped_numbers (rows_of n ds store)) w)

@@ -62,12 +62,12 @@ factored_shaped m n norms rest f z l =
 -- ---- a reduction keeps the lengths of its columns and of the diagonal
 module _ (m n : ℕ) (jacobian residuals : List Float) (h : m * n ≤ length jacobian) (l : length residuals ≡ m) where
   -- LAW: R fills the square
-  pub square-filled : SquareLong m n (reduction_of m n (columns m n jacobian) residuals)
-  square-filled =
+  pub square_filled : SquareLong m n (reduction_of m n (columns m n jacobian) residuals)
+  square_filled =
       let z = reduction-fits m n jacobian residuals h l in
       let r = reduction_of m n (columns m n jacobian) residuals in
       whole_long m n r.cols r.diag z.cols_wide z.diag_long z.cols_tall
 
   -- LAW: a place in the order for each column
-  pub order-listed : length (reduction_of m n (columns m n jacobian) residuals).order ≡ n
-  order-listed = (reduction-fits m n jacobian residuals h l).order_long
+  pub order_listed : length (reduction_of m n (columns m n jacobian) residuals).order ≡ n
+  order_listed = (reduction-fits m n jacobian residuals h l).order_long

@@ -18,7 +18,7 @@ use Rattle.leaves.proofs.Triangles.{column_at, solved}
 use Rattle.leaves.specs.Square.{uppers_of, diagonal, zeros}
 use Rattle.factor.specs.Solve.{rank, no_zero, non_singular_of, scatter, gather, padded, zero_solved}
 use Rattle.leaves.proofs.Fronts.{map_at}
-use Rattle.leaves.proofs.Squares.{diagonal-length, uppers_of-length, upper-at}
+use Rattle.leaves.proofs.Squares.{diagonal-length, uppers_of-length, upper_at}
 use Rattle.leaves.specs.inner.Squares.{Square}
 
 -- ---- the first `top` of R's diagonal
@@ -60,30 +60,30 @@ unfolding no_zero
 no_zero-cons d ds b t = ap (λ (x : Bool). not x && no_zero ds) t
 
 module _ (ds : List Float) (k : ℕ) (h : k < length ds) (d : Float) (e : d ≡ get_or ds k nan) where
-  from-here : drop k ds ≡ d ∷ drop (suc k) ds
-  from-here = drop-cons ds k nan h ∙ ap (λ (x : Float). x ∷ drop (suc k) ds) (sym e)
+  from_here : drop k ds ≡ d ∷ drop (suc k) ds
+  from_here = drop-cons ds k nan h ∙ ap (λ (x : Float). x ∷ drop (suc k) ds) (sym e)
 
   pub rank-stop : eq d plus_zero ≡ true → k ≡ k + rank (drop k ds)
-  rank-stop t = let q : rank (drop k ds) ≡ 0 = ap rank from-here ∙ rank-cons d (drop (suc k) ds) true t in omega arith
+  rank-stop t = let q : rank (drop k ds) ≡ 0 = ap rank from_here ∙ rank-cons d (drop (suc k) ds) true t in omega arith
 
-  pub rank-go : eq d plus_zero ≡ false → k + 1 + rank (drop (k + 1) ds) ≡ k + rank (drop k ds)
-  rank-go t =
-      let q : rank (drop k ds) ≡ suc (rank (drop (suc k) ds)) = ap rank from-here ∙ rank-cons d (drop (suc k) ds) false t in
+  pub rank_go : eq d plus_zero ≡ false → k + 1 + rank (drop (k + 1) ds) ≡ k + rank (drop k ds)
+  rank_go t =
+      let q : rank (drop k ds) ≡ suc (rank (drop (suc k) ds)) = ap rank from_here ∙ rank-cons d (drop (suc k) ds) false t in
       rw add-one (omega arith)
 
-  pub noZero-stop : eq d plus_zero ≡ true → false ≡ no_zero (drop k ds)
-  noZero-stop t = sym (ap no_zero from-here ∙ no_zero-cons d (drop (suc k) ds) true t)
+  pub no_zero-stop : eq d plus_zero ≡ true → false ≡ no_zero (drop k ds)
+  no_zero-stop t = sym (ap no_zero from_here ∙ no_zero-cons d (drop (suc k) ds) true t)
 
-  pub noZero-go : eq d plus_zero ≡ false → no_zero (drop (k + 1) ds) ≡ no_zero (drop k ds)
-  noZero-go t = rw add-one (sym (ap no_zero from-here ∙ no_zero-cons d (drop (suc k) ds) false t))
+  pub no_zero_go : eq d plus_zero ≡ false → no_zero (drop (k + 1) ds) ≡ no_zero (drop k ds)
+  no_zero_go t = rw add-one (sym (ap no_zero from_here ∙ no_zero-cons d (drop (suc k) ds) false t))
 
 module _ (ds : List Float) (k : ℕ) (h : length ds ≤ k) where
   pub rank-end : k ≡ k + rank (drop k ds)
   rank-end = let q : rank (drop k ds) ≡ 0 = ap rank (drop_of_length-le ds {i = k} h) ∙ rank_nil in omega arith
 
-  pub noZero-end : true ≡ no_zero (drop k ds)
+  pub no_zero-end : true ≡ no_zero (drop k ds)
   unfolding no_zero
-  noZero-end = sym (ap no_zero (drop_of_length-le ds {i = k} h))
+  no_zero-end = sym (ap no_zero (drop_of_length-le ds {i = k} h))
 
 pub rank_most : (ds : List Float) → rank ds ≤ length ds
 rank_most [] = omega (arith, rank_nil)
@@ -120,12 +120,12 @@ down_upper n s q k l x = down_same (columns n k s) (uppers_of n s) k x cell abov
   where
     cell : (i : ℕ) → i < k → get_or (get_or (columns n k s) i []) i nan ≡ get_or (get_or (uppers_of n s) i []) i nan
     cell i h =
-        rw (column_at n k i s h, upper-at n s q i (omega arith))
+        rw (column_at n k i s h, upper_at n s q i (omega arith))
         (get_or-take n (drop (i * n) s) i nan (omega arith) ∙ sym (get_or-take (suc i) (drop (i * n) s) i nan (le_refl (suc i))))
 
     above : (i : ℕ) → i < k → take i (get_or (columns n k s) i []) ≡ take i (get_or (uppers_of n s) i [])
     above i h =
-        rw (column_at n k i s h, upper-at n s q i (omega arith))
+        rw (column_at n k i s h, upper_at n s q i (omega arith))
         (take-take i n (drop (i * n) s) (omega arith) ∙ sym (take-take i (suc i) (drop (i * n) s) (le_step (le_refl i))))
 
 -- what the leaf leaves where it refuses nothing

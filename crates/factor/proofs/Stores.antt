@@ -34,8 +34,8 @@ module _ (n : ℕ) (s a q : List Float) (h : n * n + 4 * n ≤ length s) (la : l
       behind (n * n) n a (drop (n * n) s) q la ∙ ap (λ (l : List Float). a ++ (q ++ l)) (drop-drop n (n * n) s ∙ mid)
       ∙ sym (append_assoc a (q ++ kept) left ∙ ap (λ (l : List Float). a ++ l) (append_assoc q kept left))
 
-  two-long : length (a ++ (q ++ kept)) ≡ n * n + n + n
-  two-long =
+  two_long : length (a ++ (q ++ kept)) ≡ n * n + n + n
+  two_long =
       let lm : length kept ≡ n = length-take-le n (drop (n * n + n) s) (simp length-drop (omega arith)) in
       length-append a (q ++ kept) ∙ (let u = length-append q kept in omega arith)
 
@@ -47,9 +47,9 @@ module _ (n : ℕ) (s a q : List Float) (h : n * n + 4 * n ≤ length s) (la : l
       let e : n * n + n + n + 2 * n ≡ n * n + 4 * n = omega arith in
       let ll : length (take (2 * n) left) ≡ 2 * n = length-take-le (2 * n) left (simp length-drop (omega arith)) in
       let l₂ : length (take v (drop (n * n + n + n) (patch (n * n) w (a ++ drop (n * n) s) q))) ≡ 2 * n =
-      rw (ew, ev, two_laid, drop_at (a ++ (q ++ kept)) left (n * n + n + n) two-long) ll in
+      rw (ew, ev, two_laid, drop_at (a ++ (q ++ kept)) left (n * n + n + n) two_long) ll in
       let zz : z ≡ zeros n ++ zeros n = ez ∙ ap zeros (l₂ ∙ t) ∙ sym (replicate-append-replicate n n plus_zero) in
-      rw (ew, ev) (ap (λ (x : List Float). patch (n * n + n + n) (2 * n) x z) two_laid ∙ behind (n * n + n + n) (2 * n) (a ++ (q ++ kept)) left z two-long
+      rw (ew, ev) (ap (λ (x : List Float). patch (n * n + n + n) (2 * n) x z) two_laid ∙ behind (n * n + n + n) (2 * n) (a ++ (q ++ kept)) left z two_long
       ∙ rw (drop-drop (2 * n) (n * n + n + n) s, e, zz, append_assoc a (q ++ kept) _, append_assoc q kept _, append_assoc (zeros n) (zeros n) (drop (n * n + 4 * n) s)))
 
 -- where the norms go there is room for n
@@ -58,16 +58,16 @@ norms_part n s w ew h = rw ew (part_long (n * n + n) n s (omega arith))
 
 -- the norms written, and all behind l_diag and work as it was
 module _ (n : ℕ) (s v : List Float) (h : n * n + 4 * n ≤ length s) (lv : length v ≡ n) (w : ℕ) (ew : w ≡ n) where
-  before-norms : length (take (n * n + n) s) ≡ n * n + n
-  before-norms = length-take-le (n * n + n) s (omega arith)
+  before_norms : length (take (n * n + n) s) ≡ n * n + n
+  before_norms = length-take-le (n * n + n) s (omega arith)
 
   pub norms-size : length (patch (n * n + n) w s v) ≡ length s
   norms-size = simp (length-append, length-take, length-drop) (omega arith)
 
-  pub norms-read : take n (drop (n * n + n) (patch (n * n + n) w s v)) ≡ v
-  norms-read =
+  pub norms_read : take n (drop (n * n + n) (patch (n * n + n) w s v)) ≡ v
+  norms_read =
       let r : List Float = drop w (drop (n * n + n) s) in
-      rw (drop_at (take (n * n + n) s) (v ++ r) (n * n + n) before-norms) (take_at v r n lv)
+      rw (drop_at (take (n * n + n) s) (v ++ r) (n * n + n) before_norms) (take_at v r n lv)
 
   pub norms-past : drop (n * n + 4 * n) (patch (n * n + n) w s v) ≡ drop (n * n + 4 * n) s
   norms-past =
@@ -78,7 +78,7 @@ module _ (n : ℕ) (s v : List Float) (h : n * n + 4 * n ≤ length s) (lv : len
         ew,
         e,
         ← drop-drop (n + 2 * n) (n * n + n) p,
-        drop_at (take (n * n + n) s) (v ++ r) (n * n + n) before-norms,
+        drop_at (take (n * n + n) s) (v ++ r) (n * n + n) before_norms,
         ← drop-drop (2 * n) n (v ++ r),
         drop_at v r n lv,
         drop-drop (2 * n) n (drop (n * n + n) s),

@@ -18,7 +18,7 @@ use Rattle.leaves.specs.Triangle.{columns}
 use Rattle.leaves.specs.Loop.{count_from}
 use Rattle.factor.specs.Tests.{absent, distinct_below}
 use Rattle.reduce.specs.Reduction.{Reduction, reduction, swap, pivoted, axis_by, later, with_diag, signed, reflected, reduced, start, reduction_of}
-use Rattle.leaves.proofs.Loops.{upto-keeps, between-keeps}
+use Rattle.leaves.proofs.Loops.{upto_keeps, between_keeps}
 use Rattle.leaves.proofs.Squares.{columns-length}
 use Rattle.factor.proofs.Orders.{both-absent, other, three, first_alone, entry_below}
 use Rattle.leaves.proofs.Overs.{count-length, count_at}
@@ -66,8 +66,8 @@ abbrev place : ℕ → ℕ → ℕ → ℕ
 place j k i = cond (eqb i k) j (cond (eqb i j) k i)
 
 module _ (j k : ℕ) where
-  place-below : (l i : ℕ) → j < l → k < l → i < l → place j k i < l
-  place-below l i hj hk hi = go (eqb i k) (eqb i j)
+  place_below : (l i : ℕ) → j < l → k < l → i < l → place j k i < l
+  place_below l i hj hk hi = go (eqb i k) (eqb i j)
     where
       go : (a b : Bool) → cond a j (cond b k i) < l
       go true b = hj
@@ -99,22 +99,22 @@ module _ (j k : ℕ) where
             get_or-set_other one k i (get_or xs j 0) 0 (eqb-false i k e) ∙ rw q (get_or-set_same xs j (get_or xs k 0) 0 hj)
         go false false e f = get_or-set_other one k i (get_or xs j 0) 0 (eqb-false i k e) ∙ get_or-set_other xs j i (get_or xs k 0) 0 (eqb-false i j f)
 
-    pub swap-distinct : (n : ℕ) → (j ≡ k → ⊥) → distinct_below n xs ≡ true → distinct_below n (swap 0 j k xs) ≡ true
+    pub swap_distinct : (n : ℕ) → (j ≡ k → ⊥) → distinct_below n xs ≡ true → distinct_below n (swap 0 j k xs) ≡ true
     unfolding swap
-    swap-distinct n ne d =
+    swap_distinct n ne d =
         let l : length (swap 0 j k xs) ≡ length xs = length-set (set xs j (get_or xs k 0)) k (get_or xs j 0) ∙ length-set xs j (get_or xs k 0) in
         distinct_from n (swap 0 j k xs)
-        (λ i h. rw (swap_at i) (entry_below n xs d (place j k i) (place-below (length xs) i hj hk (omega arith))))
+        (λ i h. rw (swap_at i) (entry_below n xs d (place j k i) (place_below (length xs) i hj hk (omega arith))))
         (λ a b ha hb e.
         let p : place j k a ≡ place j k b =
-        distinct_apart n xs d (place j k a) (place j k b) (place-below (length xs) a hj hk (omega arith)) (place-below (length xs) b hj hk (omega arith)) (sym (swap_at a) ∙ e ∙ swap_at b) in
+        distinct_apart n xs d (place j k a) (place j k b) (place_below (length xs) a hj hk (omega arith)) (place_below (length xs) b hj hk (omega arith)) (sym (swap_at a) ∙ e ∙ swap_at b) in
         sym (place_twice ne a) ∙ ap (place j k) p ∙ place_twice ne b)
 
 -- ---- the order list of a factoring
 module _ (m n : ℕ) where
-  pivot-permutes : (j : ℕ) (r : Reduction) → j < n → Fits m n r → distinct_below n r.order ≡ true → distinct_below n (pivoted j r).order ≡ true
+  pivot_permutes : (j : ℕ) (r : Reduction) → j < n → Fits m n r → distinct_below n r.order ≡ true → distinct_below n (pivoted j r).order ≡ true
   unfolding pivoted
-  pivot-permutes j r h f d = go (eqb (j + imax_of (drop j r.diag)) j) refl
+  pivot_permutes j r h f d = go (eqb (j + imax_of (drop j r.diag)) j) refl
     where
       k : ℕ
       k = j + imax_of (drop j r.diag)
@@ -125,13 +125,13 @@ module _ (m n : ℕ) where
       go false e =
           let hk : k < n = pivot-below n j r.diag f.diag_long h in
           let o = f.order_long in
-          swap-distinct j k r.order (omega arith) (omega arith) n (λ (z : j ≡ k). eqb-false k j e (sym z)) d
+          swap_distinct j k r.order (omega arith) (omega arith) n (λ (z : j ≡ k). eqb-false k j e (sym z)) d
 
   reflected-order : (j : ℕ) (s : Float) (r : Reduction) → j < n → (reflected n j s r).order ≡ r.order
   unfolding reflected later
   reflected-order j s r h =
       let c : List Float = drop j (get_or r.cols j []) in
-      between-keeps (λ (i : ℕ) (t : Reduction). t.order ≡ r.order) (later j (axis_by (signed s c) c)) (suc j) n (with_diag j (neg (signed s c)) r) h refl (λ i t a b p. p)
+      between_keeps (λ (i : ℕ) (t : Reduction). t.order ≡ r.order) (later j (axis_by (signed s c) c)) (suc j) n (with_diag j (neg (signed s c)) r) h refl (λ i t a b p. p)
 
   -- a column's reduction exchanges two places at most
   reduced-order : (j : ℕ) (r : Reduction) → j < n → (reduced n j r).order ≡ (pivoted j r).order
@@ -145,10 +145,10 @@ module _ (m n : ℕ) where
       go true = refl
       go false = reflected-order j s (pivoted j r) h
 
-  pub reduction-permutes : (jac res : List Float) → m * n ≤ length jac → length res ≡ m → distinct_below n (reduction_of m n (columns m n jac) res).order ≡ true
+  pub reduction_permutes : (jac res : List Float) → m * n ≤ length jac → length res ≡ m → distinct_below n (reduction_of m n (columns m n jac) res).order ≡ true
   unfolding reduction_of start
-  reduction-permutes jac res h l =
-      (upto-keeps (λ (i : ℕ) (t : Reduction). Fits m n t × (distinct_below n t.order ≡ true)) (reduced n) (min m n) (start (columns m n jac) res)
+  reduction_permutes jac res h l =
+      (upto_keeps (λ (i : ℕ) (t : Reduction). Fits m n t × (distinct_below n t.order ≡ true)) (reduced n) (min m n) (start (columns m n jac) res)
       (start_fits m n jac res h l, rw (columns-length m n jac) (count_distinct n))
-      (λ i t b p. (reduced-fits m n i t (omega arith) p.0, ap (distinct_below n) (reduced-order i t (omega arith)) ∙ pivot-permutes i t (omega arith) p.0 p.1))
+      (λ i t b p. (reduced-fits m n i t (omega arith) p.0, ap (distinct_below n) (reduced-order i t (omega arith)) ∙ pivot_permutes i t (omega arith) p.0 p.1))
       ).1

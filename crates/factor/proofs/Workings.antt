@@ -26,22 +26,22 @@ use Rattle.reduce.specs.Reduced.{reduced_as, filled_call}
 use Rattle.factor.specs.inner.Worked.{outcome, SquareLong}
 use Rattle.leaves.proofs.Squares.{columns-length}
 use Rattle.leaves.proofs.Overs.{lent_long}
-use Rattle.reduce.proofs.Filled.{filled-reduces}
+use Rattle.reduce.proofs.Filled.{filled_reduces}
 use Rattle.factor.proofs.Lays.{finite-append, finite_square}
 use Rattle.reduce.proofs.Begins.{norms-length, front_columns}
 use Rattle.factor.proofs.Stores.{transformed_long, norms_part}
 
 -- ---- the store by its parts
 module _ (n : ℕ) (a q v rest : List Float) (la : length a ≡ n * n) (lq : length q ≡ n) (lv : length v ≡ n) where
-  pub head-laid : take (n * n + 2 * n) (a ++ (q ++ (v ++ (zeros n ++ (zeros n ++ rest))))) ≡ (a ++ q) ++ v
-  head-laid =
+  pub head_laid : take (n * n + 2 * n) (a ++ (q ++ (v ++ (zeros n ++ (zeros n ++ rest))))) ≡ (a ++ q) ++ v
+  head_laid =
       let t : List Float = zeros n ++ (zeros n ++ rest) in
       let l : length ((a ++ q) ++ v) ≡ n * n + 2 * n = length-append (a ++ q) v ∙ (let u = length-append a q in omega arith) in
       let e : a ++ (q ++ (v ++ t)) ≡ ((a ++ q) ++ v) ++ t = sym (append_assoc (a ++ q) v t ∙ append_assoc a q (v ++ t)) in
       ap (take (n * n + 2 * n)) e ∙ take_at ((a ++ q) ++ v) t (n * n + 2 * n) l
 
-  pub rest-laid : drop (n * n + 4 * n) (a ++ (q ++ (v ++ (zeros n ++ (zeros n ++ rest))))) ≡ rest
-  rest-laid =
+  pub rest_laid : drop (n * n + 4 * n) (a ++ (q ++ (v ++ (zeros n ++ (zeros n ++ rest))))) ≡ rest
+  rest_laid =
       let z : List Float = zeros n in
       let lz : length z ≡ n = length-replicate n plus_zero in
       let p : List Float = (((a ++ q) ++ v) ++ z) ++ z in
@@ -69,19 +69,19 @@ module _ (m n : ℕ) (bench J R store : List Float) (ej : J ≡ take (m * n) ben
   filled : SquareLong m n f
   filled = rw (ej, er) at sl
 
-  finite-laid : all_finite (take (n * n + 2 * n) laid) ≡ finite_room (factored_room m n (map norm cols) f (drop (n * n + 4 * n) store))
+  finite_laid : all_finite (take (n * n + 2 * n) laid) ≡ finite_room (factored_room m n (map norm cols) f (drop (n * n + 4 * n) store))
   unfolding lay factored_room finite_room
-  finite-laid =
+  finite_laid =
       let a : List Float = joined (uppers m 0 f.cols f.diag) (no_lower n) in
       let q : List Float = transformed n f.rhs in
       let v : List Float = map norm cols in
-      ap all_finite (head-laid n a q v (drop (n * n + 4 * n) store) filled (transformed_long n f.rhs) (norms_long m n (take (m * n) bench)))
+      ap all_finite (head_laid n a q v (drop (n * n + 4 * n) store) filled (transformed_long n f.rhs) (norms_long m n (take (m * n) bench)))
       ∙ finite-append (a ++ q) v ∙ rw (finite-append a q, finite_square n (uppers m 0 f.cols f.diag))
 
-  laid-rest : drop (n * n + 4 * n) laid ≡ drop (n * n + 4 * n) store
+  laid_rest : drop (n * n + 4 * n) laid ≡ drop (n * n + 4 * n) store
   unfolding lay factored_room
-  laid-rest =
-      rest-laid n (joined (uppers m 0 f.cols f.diag) (no_lower n)) (transformed n f.rhs) (map norm cols) (drop (n * n + 4 * n) store) filled (transformed_long n f.rhs) (norms_long m n (take (m * n) bench))
+  laid_rest =
+      rest_laid n (joined (uppers m 0 f.cols f.diag) (no_lower n)) (transformed n f.rhs) (map norm cols) (drop (n * n + 4 * n) store) filled (transformed_long n f.rhs) (norms_long m n (take (m * n) bench))
 
   module _
       (order o : List ℕ) (s b : List Float) (xs : s ≡ lay (factored_room m n (map norm (columns m n J)) (reduction_of m n (columns m n J) R) (drop (n * n + 4 * n) store)))
@@ -95,26 +95,26 @@ module _ (m n : ℕ) (bench J R store : List Float) (ej : J ≡ take (m * n) ben
     ef : seen ≡ ranges_of (measured m n cols (take m (drop (m * n) bench)))
     ef = rw (ej, er) at xf
 
-    bench-as : b ++ drop (m * n + m) bench ≡ zeros (m * n + m) ++ drop (length (zeros (m * n + m))) bench
-    bench-as =
+    bench_as : b ++ drop (m * n + m) bench ≡ zeros (m * n + m) ++ drop (length (zeros (m * n + m))) bench
+    bench_as =
         let l : length (zeros (m * n + m)) ≡ m * n + m = length-replicate (m * n + m) plus_zero in
         rw (eb, length-take-le (m * n + m) bench hb, l)
 
     pub stands : all_finite (take (n * n + 2 * n) s) ≡ true → outcome true seen m n s (o ++ drop n order) (b ++ drop (m * n + m) bench) ≡ factor_worked m n (take (m * n) bench) (drop (m * n) bench) store order bench
     unfolding factor_worked
     stands t =
-        let g = sym finite-laid ∙ ap (λ (x : List Float). all_finite (take (n * n + 2 * n) x)) (sym es) ∙ t in
-        rw (g, factor_worked) (rw (ef, es, eo, bench-as))
+        let g = sym finite_laid ∙ ap (λ (x : List Float). all_finite (take (n * n + 2 * n) x)) (sym es) ∙ t in
+        rw (g, factor_worked) (rw (ef, es, eo, bench_as))
 
     pub falls : (s' : List Float) (o' : List ℕ) → length o ≡ n → all_finite (take (n * n + 2 * n) s) ≡ false
         → s' ≡ zeros (n * n + 4 * n) ++ drop (n * n + 4 * n) s → o' ≡ count_from n 0 ++ drop n (o ++ drop n order)
         → outcome false seen m n s' o' (b ++ drop (m * n + m) bench) ≡ factor_worked m n (take (m * n) bench) (drop (m * n) bench) store order bench
     unfolding factor_worked
     falls s' o' lo t es' eo' =
-        let g = sym finite-laid ∙ ap (λ (x : List Float). all_finite (take (n * n + 2 * n) x)) (sym es) ∙ t in
+        let g = sym finite_laid ∙ ap (λ (x : List Float). all_finite (take (n * n + 2 * n) x)) (sym es) ∙ t in
         let l : length (zeros (n * n + 4 * n)) ≡ n * n + 4 * n = length-replicate (n * n + 4 * n) plus_zero in
-        let d : drop (n * n + 4 * n) s ≡ drop (n * n + 4 * n) store = ap (drop (n * n + 4 * n)) es ∙ laid-rest in
-        rw (g, factor_worked) (rw (es', eo', d, drop_at o (drop n order) n lo, bench-as, l))
+        let d : drop (n * n + 4 * n) s ≡ drop (n * n + 4 * n) store = ap (drop (n * n + 4 * n)) es ∙ laid_rest in
+        rw (g, factor_worked) (rw (es', eo', d, drop_at o (drop n order) n lo, bench_as, l))
 
 -- ---- what a reduction hands over
 
@@ -123,23 +123,23 @@ pub store-reduced : (m n : ℕ) (store room v d b₀ b : List Float) (o₀ o : L
     → n * n + 4 * n ≤ length store → length o₀ ≡ n → room ≡ replicate 16 plus_zero → w ≡ n
     → reduced_as r v d o b ≡ filled_call m n (take w (drop (n * n + n) store)) (take n room) o₀ b₀ → Reduces m n (take (m * n) b₀) (drop (m * n) b₀) r v d o b
 store-reduced m n store room v d b₀ b o₀ o w hb ho hs lo er ew e =
-    filled-reduces m n (take w (drop (n * n + n) store)) (take n room) o₀ b₀ ho (norms_part n store w ew hs) (lent_long n room er hb.across) lo
+    filled_reduces m n (take w (drop (n * n + n) store)) (take n room) o₀ b₀ ho (norms_part n store w ew hs) (lent_long n room er hb.across) lo
     (hb.whole ∙ omega (arith, mul_comm m n, suc-mul n m)) v d b o e
 
 module _ (m n : ℕ) (jac res v d d₁ b : List Float) (o : List ℕ) {a : Reply Ranges} (r : Reduces m n jac res a v d o b) (ed : d₁ ≡ d) where
-  pub room-laid : (s store store₁ : List Float) → take n (drop (n * n + n) store₁) ≡ v → drop (n * n + 4 * n) store₁ ≡ drop (n * n + 4 * n) store
+  pub room_laid : (s store store₁ : List Float) → take n (drop (n * n + n) store₁) ≡ v → drop (n * n + 4 * n) store₁ ≡ drop (n * n + 4 * n) store
       → s ≡ joined (uppers m 0 (take n (grid m n b)) d₁) (no_lower n) ++ (transformed n (get_or (grid m n b) n []) ++ (take n (drop (n * n + n) store₁) ++ (zeros n ++ (zeros n ++ drop (n * n + 4 * n) store₁))))
       → s ≡ lay (factored_room m n (map norm (columns m n jac)) (reduction_of m n (columns m n jac) res) (drop (n * n + 4 * n) store))
   unfolding lay factored_room
-  room-laid s store store₁ en er es = es ∙ rw (en ∙ r.norms, er, r.cols, r.rhs, ed ∙ r.diag)
+  room_laid s store store₁ en er es = es ∙ rw (en ∙ r.norms, er, r.cols, r.rhs, ed ∙ r.diag)
 
   pub room_long : length (joined (uppers m 0 (take n (grid m n b)) d₁) (no_lower n)) ≡ n * n → SquareLong m n (reduction_of m n (columns m n jac) res)
   room_long l = rw (r.cols, ed ∙ r.diag) at l
 
 -- ---- lent numbers, copied to the bench first
 module _ (m n : ℕ) (store : List Float) (order : List ℕ) where
-  abbrev workedOf : List (List Float) → List Float → List Float → Factored
-  workedOf cols rhs left =
+  abbrev worked_of : List (List Float) → List Float → List Float → Factored
+  worked_of cols rhs left =
       let f = reduction_of m n cols rhs in
       let r = factored_room m n (map norm cols) f (drop (store_need n) store) in
       let b = zeros (bench_need m n) ++ left in
@@ -148,9 +148,9 @@ module _ (m n : ℕ) (store : List Float) (order : List ℕ) where
         | false ↦ outcome false (ranges_of (measured m n cols rhs)) m n (written (zeros (store_need n)) store) (count_from n 0 ++ drop n order) b
       ]
 
-  worked-of : (jac res bench : List Float) → factor_worked m n jac res store order bench ≡ workedOf (columns m n jac) (take m res) (drop (length (zeros (bench_need m n))) bench)
+  worked_of_lem : (jac res bench : List Float) → factor_worked m n jac res store order bench ≡ worked_of (columns m n jac) (take m res) (drop (length (zeros (bench_need m n))) bench)
   unfolding factor_worked
-  worked-of jac res bench = refl
+  worked_of_lem jac res bench = refl
 
   pub worked-copied : (jac res bench b : List Float) → m * n ≤ length jac → m ≤ length res → b ≡ take (m * n) jac ++ (take m res ++ drop (m * n + m) bench)
       → factor_worked m n (take (m * n) b) (drop (m * n) b) store order b ≡ factor_worked m n jac res store order bench
@@ -164,4 +164,4 @@ module _ (m n : ℕ) (store : List Float) (order : List ℕ) where
       let rhs : take m (drop (m * n) b) ≡ take m res = ap (take m) back ∙ take_at (take m res) (drop (m * n + m) bench) m lr in
       let left : drop (length (zeros (m * n + m))) b ≡ drop (length (zeros (m * n + m))) bench =
       rw lz (sym (drop-drop m (m * n) b) ∙ ap (drop m) back ∙ drop_at (take m res) (drop (m * n + m) bench) m lr) in
-      worked-of (take (m * n) b) (drop (m * n) b) b ∙ rw (cols, rhs, left) (sym (worked-of jac res bench))
+      worked_of_lem (take (m * n) b) (drop (m * n) b) b ∙ rw (cols, rhs, left) (sym (worked_of_lem jac res bench))

@@ -75,7 +75,7 @@ fn clear(n: usize, store: &mut [f64], order: &mut [usize])
 }
 
 // Whether R, qt_b and the column norms are finite, and the ranges that took part in the norms.
-#[derive(Drop)]
+#[derive(Clone, Copy)]
 pub(crate) struct Worked {
     pub(crate) finite: bool,
     pub(crate) seen: Ranges,

@@ -1,4 +1,6 @@
 // Modules 2 to 5 of document 01: state, rooms and tests; factoring, the solves, the held calls; and the workings that a search asks for.
+#![tactic(auto)]
+
 pub mod answer;
 pub mod check;
 pub mod cholesky;

@@ -5,7 +5,7 @@ ghost use Rattle.factor.specs.State.{with_held};
 use leaves::reply::{Done, Ranged};
 
 // What a store holds below its diagonal and in l_diag.
-#[derive(Drop)]
+#[derive(Clone, Copy)]
 pub enum Held {
     Empty,
     Nothing,
@@ -13,7 +13,7 @@ pub enum Held {
     Damped,
 }
 
-#[derive(Drop)]
+#[derive(Clone, Copy)]
 pub struct State {
     pub m: usize,
     pub n: usize,
@@ -21,14 +21,14 @@ pub struct State {
 }
 
 // What a call without a number of its own answers, and the state that it hands back.
-#[derive(Drop)]
+#[derive(Clone, Copy)]
 pub struct Told {
     pub answer: Done,
     pub state: State,
 }
 
 // What a factoring answers: the ranges that took part in its norms (02, #106).
-#[derive(Drop)]
+#[derive(Clone, Copy)]
 pub struct FactorTold {
     pub answer: Ranged,
     pub state: State,

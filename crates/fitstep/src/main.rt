@@ -5,6 +5,8 @@
 //
 // Proved: it is safe and ends; what it is handed and what it prints are one equation with a definition (`fit_lines`). Assumed: the
 // contracts of the C functions `read` and `write`.
+#![tactic(auto)]
+
 ghost use Rattle.std.specs.Prelude.{◌≡◌, length};
 
 use leaves::reply::Place;

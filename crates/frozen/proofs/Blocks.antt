@@ -12,7 +12,7 @@ use borrow.Author.Tests.{le-leb, lt-leb, lt-ltb, le-ltb}
 use Rattle.leaves.proofs.Overs.{append_nil}
 use Rattle.leaves.specs.Reply.{answered, refused}
 use Rattle.leaves.specs.Tests.{outside}
-use Rattle.frozen.specs.Frozen.{is_set, next_of, marks_of, free_count, freeColumns}
+use Rattle.frozen.specs.Frozen.{is_set, next_of, marks_of, free_count, free_columns}
 use Rattle.frozen.specs.Moved.{columns_call}
 
 -- room for a free column among the free ones
@@ -29,8 +29,8 @@ column_skipped m zero x p h = absurd (omega arith)
 column_skipped m (suc l) x p h = let e : suc l - 1 ≡ l = omega arith in rw (e, le-leb 32768 x h) refl
 
 pub column_copied : (m left x a b : ℕ) (src dst y rest : List Float) → 0 < left → x < 32768 → b ≤ length dst → length y ≡ m → y ≡ take m (drop a src)
-    → take (b + m) (take b dst ++ (y ++ rest)) ++ freeColumns m (marks_of (left - 1) (next_of x)) (drop (a + m) src) ≡ take b dst ++ freeColumns m (marks_of left x) (drop a src)
-unfolding marks_of freeColumns
+    → take (b + m) (take b dst ++ (y ++ rest)) ++ free_columns m (marks_of (left - 1) (next_of x)) (drop (a + m) src) ≡ take b dst ++ free_columns m (marks_of left x) (drop a src)
+unfolding marks_of free_columns
 column_copied m zero x a b src dst y rest h k p l e = absurd (omega arith)
 column_copied m (suc left) x a b src dst y rest h k p l e =
     let f : suc left - 1 ≡ left = omega arith in
@@ -39,20 +39,20 @@ column_copied m (suc left) x a b src dst y rest h k p l e =
     rw (u, f, lt-leb 32768 x k, ← drop-drop m a src, e) (append_assoc (take b dst) (take m (drop a src)) _)
 
 pub column_passed : (m left x a : ℕ) (src : List Float) → 0 < left → 32768 ≤ x
-    → freeColumns m (marks_of (left - 1) (next_of x)) (drop (a + m) src) ≡ freeColumns m (marks_of left x) (drop a src)
-unfolding marks_of freeColumns
+    → free_columns m (marks_of (left - 1) (next_of x)) (drop (a + m) src) ≡ free_columns m (marks_of left x) (drop a src)
+unfolding marks_of free_columns
 column_passed m zero x a src h k = absurd (omega arith)
 column_passed m (suc left) x a src h k = let f : suc left - 1 ≡ left = omega arith in rw (f, le-leb 32768 x k, ← drop-drop m a src) refl
 
 pub columns-end : (m left x a b : ℕ) (src dst all : List Float) → left ≤ 0 → b + m * free_count (marks_of left x) ≡ length dst
-    → take b dst ++ freeColumns m (marks_of left x) (drop a src) ≡ all → dst ≡ all
-unfolding marks_of freeColumns free_count
+    → take b dst ++ free_columns m (marks_of left x) (drop a src) ≡ all → dst ≡ all
+unfolding marks_of free_columns free_count
 columns-end m zero x a b src dst all h l e = let z = mul-zero m in sym (append_nil dst) ∙ (ap (λ (s : List Float). s ++ []) (sym (take_all b dst (omega arith))) ∙ e)
 columns-end m (suc left) x a b src dst all h l e = absurd (omega arith)
 
 -- how many numbers the free columns are
-pub columns-length : (m : ℕ) (ms : List Bool) (s : List Float) → length ms * m ≤ length s → length (freeColumns m ms s) ≡ m * free_count ms
-unfolding freeColumns free_count
+pub columns-length : (m : ℕ) (ms : List Bool) (s : List Float) → length ms * m ≤ length s → length (free_columns m ms s) ≡ m * free_count ms
+unfolding free_columns free_count
 columns-length m [] s h = sym (mul-zero m)
 columns-length m (true ∷ ms) s h = let e = suc-mul (length ms) m in columns-length m ms (drop m s) (simp length-drop (omega arith))
 columns-length m (false ∷ ms) s h =
@@ -60,7 +60,7 @@ columns-length m (false ∷ ms) s h =
     let t = length-take-le m s (omega arith) in
     let r = columns-length m ms (drop m s) (simp length-drop (omega arith)) in
     let f = mul-suc m (free_count ms) in
-    length-append (take m s) (freeColumns m ms (drop m s)) ∙ omega arith
+    length-append (take m s) (free_columns m ms (drop m s)) ∙ omega arith
 
 pub marks-length : (n x : ℕ) → length (marks_of n x) ≡ n
 unfolding marks_of
@@ -92,19 +92,19 @@ module _ (m n marks : ℕ) (src dst : List Float) where
   columns-sizes h = rw (h, columns_call) refl
 
   module _ (h : outside m n ≡ false) where
-    pub columns-short : length src < m * n → (refused 3, dst) ≡ columns_call m n marks src dst
+    pub columns_short : length src < m * n → (refused 3, dst) ≡ columns_call m n marks src dst
     unfolding columns_call
-    columns-short k = rw (h, lt-ltb (length src) (m * n) k, columns_call) refl
+    columns_short k = rw (h, lt-ltb (length src) (m * n) k, columns_call) refl
 
     module _ (k : m * n ≤ length src) where
-      pub columns-no-room : length dst < m * free_count (marks_of n marks) → (refused 3, dst) ≡ columns_call m n marks src dst
+      pub columns_no_room : length dst < m * free_count (marks_of n marks) → (refused 3, dst) ≡ columns_call m n marks src dst
       unfolding columns_call
-      columns-no-room l = rw (h, le-ltb (length src) (m * n) k, lt-ltb (length dst) (m * free_count (marks_of n marks)) l, columns_call) refl
+      columns_no_room l = rw (h, le-ltb (length src) (m * n) k, lt-ltb (length dst) (m * free_count (marks_of n marks)) l, columns_call) refl
 
-      pub columns-done : (y : List Float) → m * free_count (marks_of n marks) ≤ length dst → y ≡ freeColumns m (marks_of n marks) src
+      pub columns_done : (y : List Float) → m * free_count (marks_of n marks) ≤ length dst → y ≡ free_columns m (marks_of n marks) src
           → (answered tt, y ++ drop (m * free_count (marks_of n marks)) dst) ≡ columns_call m n marks src dst
       unfolding columns_call
-      columns-done y l e =
+      columns_done y l e =
           let z : length (marks_of n marks) * m ≤ length src = let w = marks-length n marks in rw w (omega arith) in
-          let q : length (freeColumns m (marks_of n marks) src) ≡ m * free_count (marks_of n marks) = columns-length m (marks_of n marks) src z in
+          let q : length (free_columns m (marks_of n marks) src) ≡ m * free_count (marks_of n marks) = columns-length m (marks_of n marks) src z in
           rw (h, le-ltb (length src) (m * n) k, le-ltb (length dst) (m * free_count (marks_of n marks)) l, columns_call, e, q) refl

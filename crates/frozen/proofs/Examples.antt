@@ -4,7 +4,7 @@ use Prim.Native.Nat.{ℕ}
 use mathlib.Core.Path.{◌≡◌, refl}
 use mathlib.Core.Bool.{true, false}
 use mathlib.Core.List.{[], ◌∷◌}
-use Rattle.frozen.specs.Frozen.{marks_of, mark_past, free_count, freeOf, merged, freeColumns}
+use Rattle.frozen.specs.Frozen.{marks_of, mark_past, free_count, free_of, merged, free_columns}
 use Rattle.frozen.specs.Narrowed.{spread, spread_out}
 use Rattle.leaves.specs.Number.{plus_zero, one}
 
@@ -16,13 +16,13 @@ unfolding marks_of mark_past free_count
 marks_examples = (refl, refl, refl, refl, refl, refl, refl, refl, refl, refl)
 
 -- the step of a free column goes to its own place, not to its place among the free; the surplus stays
-pub moved_examples : (freeOf {A = ℕ} (true ∷ false ∷ true ∷ []) (5 ∷ 6 ∷ 7 ∷ 8 ∷ []) ≡ 6 ∷ []) × (merged {A = ℕ} (true ∷ false ∷ true ∷ []) (1 ∷ 2 ∷ 3 ∷ 4 ∷ []) (9 ∷ []) ≡ 1 ∷ 9 ∷ 3 ∷ 4 ∷ [])
-unfolding freeOf merged
+pub moved_examples : (free_of {A = ℕ} (true ∷ false ∷ true ∷ []) (5 ∷ 6 ∷ 7 ∷ 8 ∷ []) ≡ 6 ∷ []) × (merged {A = ℕ} (true ∷ false ∷ true ∷ []) (1 ∷ 2 ∷ 3 ∷ 4 ∷ []) (9 ∷ []) ≡ 1 ∷ 9 ∷ 3 ∷ 4 ∷ [])
+unfolding free_of merged
 moved_examples = (refl, refl)
 
 -- of three columns of two rows, the second; what comes after the matrix is not read
-pub columns_example : freeColumns {A = ℕ} 2 (true ∷ false ∷ true ∷ []) (1 ∷ 2 ∷ 3 ∷ 4 ∷ 5 ∷ 6 ∷ 7 ∷ []) ≡ 3 ∷ 4 ∷ []
-unfolding freeColumns
+pub columns_example : free_columns {A = ℕ} 2 (true ∷ false ∷ true ∷ []) (1 ∷ 2 ∷ 3 ∷ 4 ∷ 5 ∷ 6 ∷ 7 ∷ []) ≡ 3 ∷ 4 ∷ []
+unfolding free_columns
 columns_example = refl
 
 -- R, qt_b, column norm, l_diag and work of one column, all 1: each part's first place, +0 at its second; the second column +0

@@ -13,7 +13,7 @@ use Rattle.leaves.specs.Square.{uppers_from, belows_from}
 use Rattle.leaves.specs.Tests.{all_finite, none_zero}
 use Rattle.leaves.specs.Triangle.{columns}
 use Rattle.leaves.proofs.Splices.{drop-take, drop_past}
-use Rattle.frozen.specs.Frozen.{marks_of, next_of, free_count, freeOf, merged, freeColumns}
+use Rattle.frozen.specs.Frozen.{marks_of, next_of, free_count, free_of, merged, free_columns}
 use Rattle.frozen.specs.Narrowed.{runs, narrowed}
 use Rattle.frozen.proofs.Runs.{runs-length}
 
@@ -25,59 +25,59 @@ marks-length (suc n) x = ap suc (marks-length n (next_of x))
 -- ---- the numbers of the free columns
 
 module _ {A : Type 0} where
-  pub free_length : (ms : List Bool) (xs : List A) → length ms ≤ length xs → length (freeOf ms xs) ≡ free_count ms
-  unfolding freeOf free_count
+  pub free_length : (ms : List Bool) (xs : List A) → length ms ≤ length xs → length (free_of ms xs) ≡ free_count ms
+  unfolding free_of free_count
   free_length [] xs h = refl
   free_length (b ∷ ms) [] h = absurd (omega arith)
   free_length (true ∷ ms) (x ∷ xs) h = free_length ms xs (omega arith)
   free_length (false ∷ ms) (x ∷ xs) h = ap suc (free_length ms xs (omega arith))
 
   -- LAW: what was put there is read there
-  pub free-of-merged : (ms : List Bool) (old new : List A) → length ms ≤ length old → length new ≡ free_count ms → freeOf ms (merged ms old new) ≡ new
-  unfolding freeOf free_count merged
-  free-of-merged [] old [] h e = refl
-  free-of-merged [] old (x ∷ xs) h e = absurd (omega arith)
-  free-of-merged (b ∷ ms) [] new h e = absurd (omega arith)
-  free-of-merged (true ∷ ms) (o ∷ os) new h e = free-of-merged ms os new (omega arith) e
-  free-of-merged (false ∷ ms) (o ∷ os) [] h e = absurd (omega arith)
-  free-of-merged (false ∷ ms) (o ∷ os) (x ∷ xs) h e = ap (λ (l : List A). x ∷ l) (free-of-merged ms os xs (omega arith) (omega arith))
+  pub free_of_merged : (ms : List Bool) (old new : List A) → length ms ≤ length old → length new ≡ free_count ms → free_of ms (merged ms old new) ≡ new
+  unfolding free_of free_count merged
+  free_of_merged [] old [] h e = refl
+  free_of_merged [] old (x ∷ xs) h e = absurd (omega arith)
+  free_of_merged (b ∷ ms) [] new h e = absurd (omega arith)
+  free_of_merged (true ∷ ms) (o ∷ os) new h e = free_of_merged ms os new (omega arith) e
+  free_of_merged (false ∷ ms) (o ∷ os) [] h e = absurd (omega arith)
+  free_of_merged (false ∷ ms) (o ∷ os) (x ∷ xs) h e = ap (λ (l : List A). x ∷ l) (free_of_merged ms os xs (omega arith) (omega arith))
 
-  pub merged-length : (ms : List Bool) (old new : List A) → length (merged ms old new) ≡ length old
+  pub merged_length : (ms : List Bool) (old new : List A) → length (merged ms old new) ≡ length old
   unfolding merged
-  merged-length [] old new = refl
-  merged-length (b ∷ ms) [] new = refl
-  merged-length (true ∷ ms) (o ∷ os) new = ap suc (merged-length ms os new)
-  merged-length (false ∷ ms) (o ∷ os) [] = refl
-  merged-length (false ∷ ms) (o ∷ os) (x ∷ xs) = ap suc (merged-length ms os xs)
+  merged_length [] old new = refl
+  merged_length (b ∷ ms) [] new = refl
+  merged_length (true ∷ ms) (o ∷ os) new = ap suc (merged_length ms os new)
+  merged_length (false ∷ ms) (o ∷ os) [] = refl
+  merged_length (false ∷ ms) (o ∷ os) (x ∷ xs) = ap suc (merged_length ms os xs)
 
   -- LAW: at a frozen column stays what stood there
-  pub merged-frozen : (ms : List Bool) (old new : List A) (k : ℕ) (d : A) → get_or ms k false ≡ true → get_or (merged ms old new) k d ≡ get_or old k d
+  pub merged_frozen : (ms : List Bool) (old new : List A) (k : ℕ) (d : A) → get_or ms k false ≡ true → get_or (merged ms old new) k d ≡ get_or old k d
   unfolding merged
-  merged-frozen [] old new k d h = refl
-  merged-frozen (b ∷ ms) [] new k d h = refl
-  merged-frozen (true ∷ ms) (o ∷ os) new zero d h = refl
-  merged-frozen (true ∷ ms) (o ∷ os) new (suc k) d h = merged-frozen ms os new k d h
-  merged-frozen (false ∷ ms) (o ∷ os) [] k d h = refl
-  merged-frozen (false ∷ ms) (o ∷ os) (x ∷ xs) zero d h = absurd (true≢false (sym h))
-  merged-frozen (false ∷ ms) (o ∷ os) (x ∷ xs) (suc k) d h = merged-frozen ms os xs k d h
+  merged_frozen [] old new k d h = refl
+  merged_frozen (b ∷ ms) [] new k d h = refl
+  merged_frozen (true ∷ ms) (o ∷ os) new zero d h = refl
+  merged_frozen (true ∷ ms) (o ∷ os) new (suc k) d h = merged_frozen ms os new k d h
+  merged_frozen (false ∷ ms) (o ∷ os) [] k d h = refl
+  merged_frozen (false ∷ ms) (o ∷ os) (x ∷ xs) zero d h = absurd (true≢false (sym h))
+  merged_frozen (false ∷ ms) (o ∷ os) (x ∷ xs) (suc k) d h = merged_frozen ms os xs k d h
 
-pub free_finite : (ms : List Bool) (xs : List Float) → all_finite (take (length ms) xs) ≡ true → all_finite (freeOf ms xs) ≡ true
-unfolding all_finite freeOf
+pub free_finite : (ms : List Bool) (xs : List Float) → all_finite (take (length ms) xs) ≡ true → all_finite (free_of ms xs) ≡ true
+unfolding all_finite free_of
 free_finite [] xs h = refl
 free_finite (b ∷ ms) [] h = refl
 free_finite (true ∷ ms) (x ∷ xs) h = free_finite ms xs ((and-eq-true_iff (is_finite x) (all_finite (take (length ms) xs))).0 h).1
 free_finite (false ∷ ms) (x ∷ xs) h =
     let w = (and-eq-true_iff (is_finite x) (all_finite (take (length ms) xs))).0 h in
-    (and-eq-true_iff (is_finite x) (all_finite (freeOf ms xs))).1 (w.0, free_finite ms xs w.1)
+    (and-eq-true_iff (is_finite x) (all_finite (free_of ms xs))).1 (w.0, free_finite ms xs w.1)
 
-pub free_none_zero : (ms : List Bool) (xs : List Float) → none_zero (take (length ms) xs) ≡ true → none_zero (freeOf ms xs) ≡ true
-unfolding none_zero freeOf
+pub free_none_zero : (ms : List Bool) (xs : List Float) → none_zero (take (length ms) xs) ≡ true → none_zero (free_of ms xs) ≡ true
+unfolding none_zero free_of
 free_none_zero [] xs h = refl
 free_none_zero (b ∷ ms) [] h = refl
 free_none_zero (true ∷ ms) (x ∷ xs) h = free_none_zero ms xs ((and-eq-true_iff (not (eq x plus_zero)) (none_zero (take (length ms) xs))).0 h).1
 free_none_zero (false ∷ ms) (x ∷ xs) h =
     let w = (and-eq-true_iff (not (eq x plus_zero)) (none_zero (take (length ms) xs))).0 h in
-    (and-eq-true_iff (not (eq x plus_zero)) (none_zero (freeOf ms xs))).1 (w.0, free_none_zero ms xs w.1)
+    (and-eq-true_iff (not (eq x plus_zero)) (none_zero (free_of ms xs))).1 (w.0, free_none_zero ms xs w.1)
 
 -- ---- runs, one after the other
 
@@ -148,52 +148,52 @@ belows_cut w j (c ∷ cs) = rw (drop-take (suc j) w c, belows_cut w (suc j) cs)
 -- ---- a store without the frozen columns
 
 module _ (n free : ℕ) (s : List Float) (fits : free ≤ n) (long : n * n + 4 * n ≤ length s) where
-  square-long : free * n ≤ length s
-  square-long = let w : free * n ≤ n * n = mul-le-mul fits (le_refl n) in omega arith
+  square_long : free * n ≤ length s
+  square_long = let w : free * n ≤ n * n = mul-le-mul fits (le_refl n) in omega arith
 
-  parts-long : 4 * n ≤ length (drop (n * n) s)
-  parts-long = simp length-drop (omega arith)
+  parts_long : 4 * n ≤ length (drop (n * n) s)
+  parts_long = simp length-drop (omega arith)
 
   front_length : length (runs free n free s) ≡ free * free
-  front_length = runs-length free n free s fits square-long
+  front_length = runs-length free n free s fits square_long
 
   -- LAW
   pub narrowed-length : length (narrowed n free s) ≡ free * free + 4 * free
   unfolding narrowed
   narrowed-length =
       let a = front_length in
-      let b = runs-length free n 4 (drop (n * n) s) fits parts-long in
+      let b = runs-length free n 4 (drop (n * n) s) fits parts_long in
       length-append (runs free n free s) (runs free n 4 (drop (n * n) s)) ∙ omega arith
 
   -- LAW: the first columns, and the first of each
   pub narrowed-columns : columns free free (narrowed n free s) ≡ map (λ (c : List Float). take free c) (take free (columns n n s))
   unfolding narrowed
   narrowed-columns =
-      runs-columns free n free s (runs free n 4 (drop (n * n) s)) fits square-long ∙ ap (λ (cs : List (List Float)). map (λ (c : List Float). take free c) cs) (columns_fewer n free n s fits)
+      runs-columns free n free s (runs free n 4 (drop (n * n) s)) fits square_long ∙ ap (λ (cs : List (List Float)). map (λ (c : List Float). take free c) cs) (columns_fewer n free n s fits)
 
   -- LAW: the first of each part
-  pub narrowed-part : (k : ℕ) → k < 4 → take free (drop (free * free + k * free) (narrowed n free s)) ≡ take free (take n (drop (n * n + k * n) s))
+  pub narrowed_part : (k : ℕ) → k < 4 → take free (drop (free * free + k * free) (narrowed n free s)) ≡ take free (take n (drop (n * n + k * n) s))
   unfolding narrowed
-  narrowed-part k h =
+  narrowed_part k h =
       ap (λ (x : List Float). take free x) (drop_past (k * free) (runs free n free s) (runs free n 4 (drop (n * n) s)) front_length refl)
-      ∙ run_at free n 4 k (drop (n * n) s) fits parts-long h ∙ ap (λ (x : List Float). take free x) (drop-drop (k * n) (n * n) s)
+      ∙ run_at free n 4 k (drop (n * n) s) fits parts_long h ∙ ap (λ (x : List Float). take free x) (drop-drop (k * n) (n * n) s)
       ∙ sym (take-take free n (drop (n * n + k * n) s) fits)
 
 -- ---- the free columns of a matrix
 
 module _ {A : Type 0} where
-  pub free-columns-length : (m : ℕ) (ms : List Bool) (xs : List A) → m * length ms ≤ length xs → length (freeColumns m ms xs) ≡ m * free_count ms
-  unfolding freeColumns free_count
-  free-columns-length m [] xs h = sym (mul-zero m)
-  free-columns-length m (true ∷ ms) xs h =
+  pub free_columns-length : (m : ℕ) (ms : List Bool) (xs : List A) → m * length ms ≤ length xs → length (free_columns m ms xs) ≡ m * free_count ms
+  unfolding free_columns free_count
+  free_columns-length m [] xs h = sym (mul-zero m)
+  free_columns-length m (true ∷ ms) xs h =
       let e = mul-suc m (length ms) in
-      free-columns-length m ms (drop m xs) (simp length-drop (omega arith))
-  free-columns-length m (false ∷ ms) xs h =
+      free_columns-length m ms (drop m xs) (simp length-drop (omega arith))
+  free_columns-length m (false ∷ ms) xs h =
       let e = mul-suc m (length ms) in
       let f = mul-suc m (free_count ms) in
       let t = length-take-le m xs (omega arith) in
-      let r = free-columns-length m ms (drop m xs) (simp length-drop (omega arith)) in
-      length-append (take m xs) (freeColumns m ms (drop m xs)) ∙ omega arith
+      let r = free_columns-length m ms (drop m xs) (simp length-drop (omega arith)) in
+      length-append (take m xs) (free_columns m ms (drop m xs)) ∙ omega arith
 
 finite-split : (xs ys : List Float) → all_finite (xs ++ ys) ≡ true → (all_finite xs ≡ true) × (all_finite ys ≡ true)
 unfolding all_finite
@@ -216,10 +216,10 @@ column_split m k xs h =
     let e : m * suc k ≡ m + m * k = omega (arith, mul-suc m k) in
     finite-split (take m xs) (take (m * k) (drop m xs)) (subst (λ (l : List Float). all_finite l ≡ true) (ap (λ (j : ℕ). take j xs) e ∙ take-add m (m * k) xs) h)
 
-pub free_columns-finite : (m : ℕ) (ms : List Bool) (xs : List Float) → all_finite (take (m * length ms) xs) ≡ true → all_finite (freeColumns m ms xs) ≡ true
-unfolding freeColumns all_finite
+pub free_columns-finite : (m : ℕ) (ms : List Bool) (xs : List Float) → all_finite (take (m * length ms) xs) ≡ true → all_finite (free_columns m ms xs) ≡ true
+unfolding free_columns all_finite
 free_columns-finite m [] xs h = refl
 free_columns-finite m (true ∷ ms) xs h = free_columns-finite m ms (drop m xs) (column_split m (length ms) xs h).1
 free_columns-finite m (false ∷ ms) xs h =
     let w = column_split m (length ms) xs h in
-    finite_join (take m xs) (freeColumns m ms (drop m xs)) w.0 (free_columns-finite m ms (drop m xs) w.1)
+    finite_join (take m xs) (free_columns m ms (drop m xs)) w.0 (free_columns-finite m ms (drop m xs) w.1)

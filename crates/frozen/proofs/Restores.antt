@@ -55,41 +55,41 @@ module _ (n free : ℕ) (s : List Float) (fits : free ≤ n) (long : free * free
   abbrev parts : List Float
   parts = spread free n 4 (drop (free * free) s)
 
-  square-length : length square ≡ free * n
-  square-length = spread-length free n free s fits (omega arith)
+  square_length : length square ≡ free * n
+  square_length = spread-length free n free s fits (omega arith)
 
-  parts-fit : 4 * free ≤ length (drop (free * free) s)
-  parts-fit = simp length-drop (omega arith)
+  parts_fit : 4 * free ≤ length (drop (free * free) s)
+  parts_fit = simp length-drop (omega arith)
 
   front_length : length (square ++ zeros ((n - free) * n)) ≡ n * n
   front_length =
-      let a = square-length in
+      let a = square_length in
       let b = zeros-length ((n - free) * n) in
       let c = columns_all free (n - free) n (omega arith) in
       length-append square (zeros ((n - free) * n)) ∙ omega arith
 
-  front-first : spread_out n free s ≡ (square ++ zeros ((n - free) * n)) ++ parts
+  front_first : spread_out n free s ≡ (square ++ zeros ((n - free) * n)) ++ parts
   unfolding spread_out
-  front-first = sym (append_assoc square (zeros ((n - free) * n)) parts)
+  front_first = sym (append_assoc square (zeros ((n - free) * n)) parts)
 
   -- LAW
   pub spread_out-length : length (spread_out n free s) ≡ n * n + 4 * n
   spread_out-length =
       let a = front_length in
-      let b = spread-length free n 4 (drop (free * free) s) fits parts-fit in
-      ap length front-first ∙ length-append (square ++ zeros ((n - free) * n)) parts ∙ omega arith
+      let b = spread-length free n 4 (drop (free * free) s) fits parts_fit in
+      ap length front_first ∙ length-append (square ++ zeros ((n - free) * n)) parts ∙ omega arith
 
   -- LAW
-  pub spread-out-narrowed : (rest : List Float) → length s ≡ free * free + 4 * free → narrowed n free (spread_out n free s ++ rest) ≡ s
+  pub spread_out-narrowed : (rest : List Float) → length s ≡ free * free + 4 * free → narrowed n free (spread_out n free s ++ rest) ≡ s
   unfolding narrowed
-  spread-out-narrowed rest l =
+  spread_out-narrowed rest l =
       let z = zeros ((n - free) * n) in
       let a : spread_out n free s ++ rest ≡ square ++ (z ++ (parts ++ rest)) =
-      ap (λ (x : List Float). x ++ rest) front-first ∙ append_assoc (square ++ z) parts rest ∙ append_assoc square z (parts ++ rest) in
-      let b : spread_out n free s ++ rest ≡ (square ++ z) ++ (parts ++ rest) = ap (λ (x : List Float). x ++ rest) front-first ∙ append_assoc (square ++ z) parts rest in
+      ap (λ (x : List Float). x ++ rest) front_first ∙ append_assoc (square ++ z) parts rest ∙ append_assoc square z (parts ++ rest) in
+      let b : spread_out n free s ++ rest ≡ (square ++ z) ++ (parts ++ rest) = ap (λ (x : List Float). x ++ rest) front_first ∙ append_assoc (square ++ z) parts rest in
       let first : runs free n free (spread_out n free s ++ rest) ≡ take (free * free) s =
       ap (λ (x : List Float). runs free n free x) a ∙ spread-runs free n free s (z ++ (parts ++ rest)) fits (omega arith) in
       let next : runs free n 4 (drop (n * n) (spread_out n free s ++ rest)) ≡ take (4 * free) (drop (free * free) s) =
       ap (λ (x : List Float). runs free n 4 (drop (n * n) x)) b ∙ ap (λ (x : List Float). runs free n 4 x) (drop_at (square ++ z) (parts ++ rest) (n * n) front_length)
-      ∙ spread-runs free n 4 (drop (free * free) s) rest fits parts-fit in
+      ∙ spread-runs free n 4 (drop (free * free) s) rest fits parts_fit in
       rw (first, next) (sym (take-add (free * free) (4 * free) s) ∙ take_all (free * free + 4 * free) s (omega arith))

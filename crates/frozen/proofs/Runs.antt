@@ -53,18 +53,18 @@ two_laid p e y z s h l =
 -- ---- `narrow`
 
 module _ (n free : ℕ) (store small : List Float) where
-  pub narrow-n : outside 1 n ≡ true → (refused 2, small) ≡ narrow_call n free store small
+  pub narrow_n : outside 1 n ≡ true → (refused 2, small) ≡ narrow_call n free store small
   unfolding narrow_call
-  narrow-n h = rw (h, narrow_call) refl
+  narrow_n h = rw (h, narrow_call) refl
 
-  pub narrow-free : outside 1 n ≡ false → outside 1 free ≡ true → (refused 2, small) ≡ narrow_call n free store small
+  pub narrow_free : outside 1 n ≡ false → outside 1 free ≡ true → (refused 2, small) ≡ narrow_call n free store small
   unfolding narrow_call
-  narrow-free h k = rw (h, k, narrow_call) refl
+  narrow_free h k = rw (h, k, narrow_call) refl
 
   module _ (h : outside 1 n ≡ false) (k : outside 1 free ≡ false) where
-    pub narrow-wider : n < free → (refused 2, small) ≡ narrow_call n free store small
+    pub narrow_wider : n < free → (refused 2, small) ≡ narrow_call n free store small
     unfolding narrow_call
-    narrow-wider l = rw (h, k, lt-ltb n free l, narrow_call) refl
+    narrow_wider l = rw (h, k, lt-ltb n free l, narrow_call) refl
 
     module _ (l : free ≤ n) where
       pub narrow-store : length store < n * n + 4 * n → (refused 3, small) ≡ narrow_call n free store small
@@ -72,24 +72,24 @@ module _ (n free : ℕ) (store small : List Float) where
       narrow-store p = rw (h, k, le-ltb n free l, lt-ltb (length store) (n * n + 4 * n) p, narrow_call) refl
 
       module _ (p : n * n + 4 * n ≤ length store) where
-        pub narrow-small : length small < free * free + 4 * free → (refused 3, small) ≡ narrow_call n free store small
+        pub narrow_small : length small < free * free + 4 * free → (refused 3, small) ≡ narrow_call n free store small
         unfolding narrow_call
-        narrow-small q = rw (h, k, le-ltb n free l, le-ltb (length store) (n * n + 4 * n) p, lt-ltb (length small) (free * free + 4 * free) q, narrow_call) refl
+        narrow_small q = rw (h, k, le-ltb n free l, le-ltb (length store) (n * n + 4 * n) p, lt-ltb (length small) (free * free + 4 * free) q, narrow_call) refl
 
-        pub narrow-done : free * free + 4 * free ≤ length small → (answered tt, narrowed n free store ++ drop (free * free + 4 * free) small) ≡ narrow_call n free store small
+        pub narrow_done : free * free + 4 * free ≤ length small → (answered tt, narrowed n free store ++ drop (free * free + 4 * free) small) ≡ narrow_call n free store small
         unfolding narrow_call
-        narrow-done q = rw (h, k, le-ltb n free l, le-ltb (length store) (n * n + 4 * n) p, le-ltb (length small) (free * free + 4 * free) q, narrow_call) refl
+        narrow_done q = rw (h, k, le-ltb n free l, le-ltb (length store) (n * n + 4 * n) p, le-ltb (length small) (free * free + 4 * free) q, narrow_call) refl
 
         -- as the two copies leave it
-        pub narrow-laid : (y z : List Float) → free * free + 4 * free ≤ length small → y ≡ runs free n free store → z ≡ runs free n 4 (take (length store - n * n) (drop (n * n) store))
+        pub narrow_laid : (y z : List Float) → free * free + 4 * free ≤ length small → y ≡ runs free n free store → z ≡ runs free n 4 (take (length store - n * n) (drop (n * n) store))
             → (answered tt, take (free * free) (y ++ drop (free * free) small) ++ (z ++ drop (free * free + 4 * free - free * free) (drop (free * free) (y ++ drop (free * free) small))))
             ≡ narrow_call n free store small
         unfolding narrowed
-        narrow-laid y z q ey ez =
+        narrow_laid y z q ey ez =
             let w : free * n ≤ n * n = mul-le-mul l (le_refl n) in
             let a : length y ≡ free * free = ap length ey ∙ runs-length free n free store l (omega arith) in
             let t : take (length store - n * n) (drop (n * n) store) ≡ drop (n * n) store = take_all (length store - n * n) (drop (n * n) store) (simp length-drop (omega arith)) in
             let b : z ≡ runs free n 4 (drop (n * n) store) = ez ∙ ap (λ (s : List Float). runs free n 4 s) t in
             let m : y ++ z ≡ narrowed n free store = ap (λ (s : List Float). s ++ z) ey ∙ ap (λ (s : List Float). runs free n free store ++ s) b in
             let f : free * free ≤ free * free + 4 * free = omega arith in
-            ap (λ (s : List Float). (answered tt, s)) (two_laid (free * free) (free * free + 4 * free) y z small a f ∙ ap (λ (s : List Float). s ++ drop (free * free + 4 * free) small) m) ∙ narrow-done q
+            ap (λ (s : List Float). (answered tt, s)) (two_laid (free * free) (free * free + 4 * free) y z small a f ∙ ap (λ (s : List Float). s ++ drop (free * free + 4 * free) small) m) ∙ narrow_done q

@@ -95,39 +95,39 @@ second_long a w y s h l = rw (drop_at y (drop a s) a h) (length-take-le w (drop 
 -- ---- `spread`
 
 module _ (n free : ℕ) (small store : List Float) where
-  pub spread-n : outside 1 n ≡ true → (refused 2, store) ≡ spread_call n free small store
+  pub spread_n : outside 1 n ≡ true → (refused 2, store) ≡ spread_call n free small store
   unfolding spread_call
-  spread-n h = rw (h, spread_call) refl
+  spread_n h = rw (h, spread_call) refl
 
-  pub spread-free : outside 1 n ≡ false → outside 1 free ≡ true → (refused 2, store) ≡ spread_call n free small store
+  pub spread_free : outside 1 n ≡ false → outside 1 free ≡ true → (refused 2, store) ≡ spread_call n free small store
   unfolding spread_call
-  spread-free h k = rw (h, k, spread_call) refl
+  spread_free h k = rw (h, k, spread_call) refl
 
   module _ (h : outside 1 n ≡ false) (k : outside 1 free ≡ false) where
-    pub spread-wider : n < free → (refused 2, store) ≡ spread_call n free small store
+    pub spread_wider : n < free → (refused 2, store) ≡ spread_call n free small store
     unfolding spread_call
-    spread-wider l = rw (h, k, lt-ltb n free l, spread_call) refl
+    spread_wider l = rw (h, k, lt-ltb n free l, spread_call) refl
 
     module _ (l : free ≤ n) where
-      pub spread-small : length small < free * free + 4 * free → (refused 3, store) ≡ spread_call n free small store
+      pub spread_small : length small < free * free + 4 * free → (refused 3, store) ≡ spread_call n free small store
       unfolding spread_call
-      spread-small p = rw (h, k, le-ltb n free l, lt-ltb (length small) (free * free + 4 * free) p, spread_call) refl
+      spread_small p = rw (h, k, le-ltb n free l, lt-ltb (length small) (free * free + 4 * free) p, spread_call) refl
 
       module _ (p : free * free + 4 * free ≤ length small) where
         pub spread-store : length store < n * n + 4 * n → (refused 3, store) ≡ spread_call n free small store
         unfolding spread_call
         spread-store q = rw (h, k, le-ltb n free l, le-ltb (length small) (free * free + 4 * free) p, lt-ltb (length store) (n * n + 4 * n) q, spread_call) refl
 
-        pub spread-done : n * n + 4 * n ≤ length store → (answered tt, spread_out n free small ++ drop (n * n + 4 * n) store) ≡ spread_call n free small store
+        pub spread_done : n * n + 4 * n ≤ length store → (answered tt, spread_out n free small ++ drop (n * n + 4 * n) store) ≡ spread_call n free small store
         unfolding spread_call
-        spread-done q = rw (h, k, le-ltb n free l, le-ltb (length small) (free * free + 4 * free) p, le-ltb (length store) (n * n + 4 * n) q, spread_call) refl
+        spread_done q = rw (h, k, le-ltb n free l, le-ltb (length small) (free * free + 4 * free) p, le-ltb (length store) (n * n + 4 * n) q, spread_call) refl
 
         -- as the three are laid
-        pub spread-laid : (y z w : List Float) → n * n + 4 * n ≤ length store → y ≡ spread free n free small
+        pub spread_laid : (y z w : List Float) → n * n + 4 * n ≤ length store → y ≡ spread free n free small
             → z ≡ zeros (length (take (n * n - free * n) (drop (free * n) (y ++ drop (free * n) store)))) → w ≡ spread free n 4 (take (length small - free * free) (drop (free * free) small))
             → (answered tt, three (free * n) (n * n) (n * n + 4 * n) y z w store) ≡ spread_call n free small store
         unfolding spread_out
-        spread-laid y z w q ey ez ew =
+        spread_laid y z w q ey ez ew =
             let u : free * n ≤ n * n = mul-le-mul l (le_refl n) in
             let v : n * n ≡ (n - free) * n + free * n = let i : n ≡ n - free + free = omega arith in ap (λ (k : ℕ). k * n) i ∙ add-mul (n - free) free n in
             let a : length y ≡ free * n = ap length ey ∙ spread-length free n free small l (omega arith) in
@@ -139,4 +139,4 @@ module _ (n free : ℕ) (small store : List Float) where
             let c : w ≡ spread free n 4 (drop (free * free) small) = ew ∙ ap (λ (s : List Float). spread free n 4 s) t in
             let m : y ++ (z ++ w) ≡ spread_out n free small = rw (ey, d, c, spread_out) refl in
             let o = three_laid (free * n) (n * n) (n * n + 4 * n) y z w store a b u (omega arith) in
-            ap (λ (s : List Float). (answered tt, s)) (o ∙ ap (λ (s : List Float). s ++ drop (n * n + 4 * n) store) m) ∙ spread-done q
+            ap (λ (s : List Float). (answered tt, s)) (o ∙ ap (λ (s : List Float). s ++ drop (n * n + 4 * n) store) m) ∙ spread_done q

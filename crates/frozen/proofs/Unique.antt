@@ -18,7 +18,7 @@ use Rattle.frozen.specs.contracts.marks.mark_past.{signature as mark-past-signat
 use Rattle.frozen.proofs.marks.mark_past.Reads as mark-past
 use Rattle.frozen.proofs.marks.mark_past.Kinds as mark-past-kinds
 use Rattle.frozen.specs.contracts.moved.gather_free.{signature as gather-free-signature}
-use Rattle.frozen.proofs.moved.gather_free.Reads as gather-free
+use Rattle.frozen.proofs.moved.gather_free.Reads as gather_free
 use Rattle.frozen.proofs.moved.gather_free.Kinds as gather-free-kinds
 use Rattle.frozen.specs.contracts.moved.merge_into.{signature as merge-into-signature}
 use Rattle.frozen.proofs.moved.merge_into.Reads as merge_into
@@ -46,7 +46,7 @@ pub mark_past-one_outcome : (κs : Lfts 0) (a : ArgsD mark-past-signature κs) (
 mark_past-one_outcome κs a r₁ r₂ s₁ s₂ p q = p ∙ sym q
 
 pub gather_free-one_outcome : (κs : Lfts 2) (a : ArgsD gather-free-signature κs) (r₁ r₂ : Done) (s₁ s₂ : AtExit (ended_of 2 gather-free-kinds.ps gather-free-kinds.r) κs)
-    → gather-free.Post κs a r₁ s₁ → gather-free.Post κs a r₂ s₂ → (r₁ ≡ r₂) × (s₁.1.1.1.0.now ≡ s₂.1.1.1.0.now)
+    → gather_free.Post κs a r₁ s₁ → gather_free.Post κs a r₂ s₂ → (r₁ ≡ r₂) × (s₁.1.1.1.0.now ≡ s₂.1.1.1.0.now)
 gather_free-one_outcome κs a r₁ r₂ s₁ s₂ p q =
     let e = p ∙ sym q in
     (done_of-same r₁ r₂ (ap (λ (x : Left). x.0) e), ap (λ (x : Left). x.1) e)

@@ -8,7 +8,7 @@ use native.Mathlib.Omega.{arith}
 use lib.ListN.{take, drop}
 use lib.Seq.{take-add}
 use lib.Ieee.{Float}
-use Rattle.frozen.specs.Frozen.{marks_of, mark_past, free_count, freeColumns}
+use Rattle.frozen.specs.Frozen.{marks_of, mark_past, free_count, free_columns}
 
 pub none_set : (n : ℕ) → free_count (marks_of n 0) ≡ n
 unfolding marks_of free_count
@@ -20,8 +20,8 @@ unfolding mark_past
 none_past zero = refl
 none_past (suc n) = none_past n
 
-pub columns_whole : (m n : ℕ) (s : List Float) → freeColumns m (marks_of n 0) s ≡ take (m * n) s
-unfolding marks_of freeColumns
+pub columns_whole : (m n : ℕ) (s : List Float) → free_columns m (marks_of n 0) s ≡ take (m * n) s
+unfolding marks_of free_columns
 columns_whole m zero s = rw (mul-zero m) refl
 columns_whole m (suc n) s =
     let e : m * suc n ≡ m + m * n = mul-suc m n ∙ omega arith in

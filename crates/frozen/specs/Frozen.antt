@@ -29,11 +29,11 @@ free_count (false ∷ ms) = suc (free_count ms)
 
 module _ {A : Type 0} where
   -- what stands at the free columns
-  unfoldable pub freeOf : List Bool → List A → List A
-  freeOf [] xs = []
-  freeOf (b ∷ ms) [] = []
-  freeOf (true ∷ ms) (x ∷ xs) = freeOf ms xs
-  freeOf (false ∷ ms) (x ∷ xs) = x ∷ freeOf ms xs
+  unfoldable pub free_of : List Bool → List A → List A
+  free_of [] xs = []
+  free_of (b ∷ ms) [] = []
+  free_of (true ∷ ms) (x ∷ xs) = free_of ms xs
+  free_of (false ∷ ms) (x ∷ xs) = x ∷ free_of ms xs
 
   -- the new at the free columns, the old at the frozen ones and past the marks
   unfoldable pub merged : List Bool → List A → List A → List A
@@ -44,7 +44,7 @@ module _ {A : Type 0} where
   merged (false ∷ ms) (o ∷ os) (x ∷ xs) = x ∷ merged ms os xs
 
   -- the free columns, one after the other, of a matrix of m rows by columns
-  unfoldable pub freeColumns : ℕ → List Bool → List A → List A
-  freeColumns m [] xs = []
-  freeColumns m (true ∷ ms) xs = freeColumns m ms (drop m xs)
-  freeColumns m (false ∷ ms) xs = take m xs ++ freeColumns m ms (drop m xs)
+  unfoldable pub free_columns : ℕ → List Bool → List A → List A
+  free_columns m [] xs = []
+  free_columns m (true ∷ ms) xs = free_columns m ms (drop m xs)
+  free_columns m (false ∷ ms) xs = take m xs ++ free_columns m ms (drop m xs)

@@ -1,7 +1,7 @@
 // From a matrix of n columns to the matrix of the free ones.
 ghost use Rattle.std.specs.Prelude.{◌≡◌, ◌*◌, ◌≤◌, length};
 ghost use Rattle.leaves.specs.Reply.{done_of};
-ghost use Rattle.frozen.specs.Frozen.{marks_of, free_count, freeColumns};
+ghost use Rattle.frozen.specs.Frozen.{marks_of, free_count, free_columns};
 ghost use Rattle.frozen.specs.Moved.{columns_call};
 
 use crate::marks::{free_count, next_of};
@@ -12,7 +12,7 @@ use leaves::sizes::outside;
 fn copy_free(m: usize, n: usize, marks: u16, src: &[f64], dst: &mut [f64])
     requires n_in_bounds { m * n ≤ length src.now }
     requires dst_len { length dst.old ≡ m * free_count (marks_of n marks) }
-    ensures { dst.new ≡ freeColumns m (marks_of n marks) src.now }
+    ensures { dst.new ≡ free_columns m (marks_of n marks) src.now }
 {
     let mut x = marks as u32;
     let mut a = 0;

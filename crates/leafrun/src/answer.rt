@@ -4,7 +4,7 @@ use leaves::reply::{Done, Place, Value};
 use lines::put;
 
 // What a leaf answered. What `Written` wrote stands beside it.
-#[derive(Drop)]
+#[derive(Clone, Copy)]
 pub(crate) enum Reply {
     Number(f64),
     Norm(f64, Ranges),

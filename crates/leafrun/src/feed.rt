@@ -6,7 +6,7 @@ use lines::scan::byte;
 use std::num::wrapping_add_usize;
 
 // The place in the chunk; how many bytes of the line have come; the line's number; the counts; whether there is more to read.
-#[derive(Drop)]
+#[derive(Clone, Copy)]
 struct Spot {
     next: usize,
     fill: usize,

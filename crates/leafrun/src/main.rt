@@ -6,6 +6,8 @@
 //
 // Proved: every function is safe and ends. Assumed: the contracts of the C functions `read` and `write`. That it compares rightly is
 // shown by runs, not proved.
+#![tactic(auto)]
+
 mod answer;
 mod feed;
 mod leaf;

@@ -6,7 +6,7 @@ use lines::scan::word;
 use text::double::of_bits;
 
 // The place after the words that were read; what the leaf answered; in the first len cells what it wrote.
-#[derive(Drop)]
+#[derive(Clone, Copy)]
 pub(crate) struct Answer {
     pub(crate) next: usize,
     pub(crate) good: bool,
@@ -16,7 +16,7 @@ pub(crate) struct Answer {
 }
 
 // Numbers that a line lends. The longest vector that the oracle makes has 1000 numbers; one that is longer than the cells does not parse.
-#[derive(Drop)]
+#[derive(Clone, Copy)]
 struct Lent {
     cells: [f64; 4096],
     len: usize,

@@ -48,8 +48,8 @@ pub record Tall (n j : ℕ) (us ls : List (List Float)) : Type 0 where
   pub belows : (k : ℕ) → k < length us → length (get_or ls k []) ≡ n - suc (j + k)
 
 module _ {n j : ℕ} {u l : List Float} {us ls : List (List Float)} (h : Tall n j (u ∷ us) (l ∷ ls)) where
-  tall-rest : Tall n (suc j) us ls
-  tall-rest =
+  tall_rest : Tall n (suc j) us ls
+  tall_rest =
       let f = h.fits in
       let w = h.wide in
       record {
@@ -62,8 +62,8 @@ module _ {n j : ℕ} {u l : List Float} {us ls : List (List Float)} (h : Tall n 
   upper_first : length u ≡ suc j
   upper_first = h.uppers 0 (omega arith) ∙ omega arith
 
-  column-first : length (u ++ l) ≡ n
-  column-first =
+  column_first : length (u ++ l) ≡ n
+  column_first =
       let f = h.fits in
       let a = h.uppers 0 (omega arith) in
       let b = h.belows 0 (omega arith) in
@@ -74,8 +74,8 @@ unfolding joined
 joined_long n j [] ls h = rw zero-mul
 joined_long n j (u ∷ us) [] h = let w = h.wide in absurd (omega arith)
 joined_long n j (u ∷ us) (l ∷ ls) h =
-    let e = column-first h in
-    let r = joined_long n (suc j) us ls (tall-rest h) in
+    let e = column_first h in
+    let r = joined_long n (suc j) us ls (tall_rest h) in
     length-append (u ++ l) (joined us ls) ∙ omega (arith, suc-mul (length us) n)
 
 pub uppers-joined : (n j : ℕ) (us ls : List (List Float)) (w : List Float) → Tall n j us ls → uppers_from j (columns n (length us) (joined us ls ++ w)) ≡ us
@@ -83,13 +83,13 @@ unfolding joined columns uppers_from
 uppers-joined n j [] ls w h = refl
 uppers-joined n j (u ∷ us) [] w h = let w = h.wide in absurd (omega arith)
 uppers-joined n j (u ∷ us) (l ∷ ls) w h =
-    let e = column-first h in
+    let e = column_first h in
     rw (
       append_assoc (u ++ l) (joined us ls) w,
       take_at (u ++ l) (joined us ls ++ w) n e,
       drop_at (u ++ l) (joined us ls ++ w) n e,
       take_at u l (suc j) (upper_first h),
-      uppers-joined n (suc j) us ls w (tall-rest h),
+      uppers-joined n (suc j) us ls w (tall_rest h),
     )
 
 pub belows_joined : (n j : ℕ) (us ls : List (List Float)) (w : List Float) → Tall n j us ls → belows_from j (columns n (length us) (joined us ls ++ w)) ≡ ls
@@ -98,11 +98,11 @@ belows_joined n j [] [] w h = refl
 belows_joined n j [] (l ∷ ls) w h = let w = h.wide in absurd (omega arith)
 belows_joined n j (u ∷ us) [] w h = let w = h.wide in absurd (omega arith)
 belows_joined n j (u ∷ us) (l ∷ ls) w h =
-    let e = column-first h in
+    let e = column_first h in
     rw (
       append_assoc (u ++ l) (joined us ls) w,
       take_at (u ++ l) (joined us ls ++ w) n e,
       drop_at (u ++ l) (joined us ls ++ w) n e,
       drop_at u l (suc j) (upper_first h),
-      belows_joined n (suc j) us ls w (tall-rest h),
+      belows_joined n (suc j) us ls w (tall_rest h),
     )

@@ -7,9 +7,9 @@ use native.Mathlib.Omega.{arith}
 use Rattle.leaves.specs.Loop.{upto, between}
 
 module _ {S : Type 0} where
-  pub upto-none : (f : ℕ → S → S) (s : S) → s ≡ upto f 0 s
+  pub upto_none : (f : ℕ → S → S) (s : S) → s ≡ upto f 0 s
   unfolding upto
-  upto-none f s = refl
+  upto_none f s = refl
 
   pub upto_next : (f : ℕ → S → S) (i : ℕ) (s : S) → upto f (i + 1) s ≡ f i (upto f i s)
   unfolding upto
@@ -29,22 +29,22 @@ module _ {S : Type 0} where
   pub upto_turn : (f : ℕ → S → S) (i : ℕ) (s₀ : S) {s s' : S} → s ≡ upto f i s₀ → s' ≡ f i s → s' ≡ upto f (i + 1) s₀
   upto_turn f i s₀ inv h = h ∙ ap (f i) inv ∙ sym (upto_next f i s₀)
 
-  pub between-turn : (f : ℕ → S → S) (a i : ℕ) (s₀ : S) {s s' : S} → a ≤ i → s ≡ between f a i s₀ → s' ≡ f i s → s' ≡ between f a (i + 1) s₀
-  between-turn f a i s₀ le inv h = h ∙ ap (f i) inv ∙ sym (between_next f a i s₀ le)
+  pub between_turn : (f : ℕ → S → S) (a i : ℕ) (s₀ : S) {s s' : S} → a ≤ i → s ≡ between f a i s₀ → s' ≡ f i s → s' ≡ between f a (i + 1) s₀
+  between_turn f a i s₀ le inv h = h ∙ ap (f i) inv ∙ sym (between_next f a i s₀ le)
 
   -- what each turn keeps, the whole loop keeps; P may speak of the turn's number
-  pub upto-keeps : (P : ℕ → S → Type 0) (f : ℕ → S → S) (n : ℕ) (s : S) → P 0 s
+  pub upto_keeps : (P : ℕ → S → Type 0) (f : ℕ → S → S) (n : ℕ) (s : S) → P 0 s
       → ((i : ℕ) (t : S) → i < n → P i t → P (suc i) (f i t)) → P n (upto f n s)
   unfolding upto
-  upto-keeps P f zero s z step = z
-  upto-keeps P f (suc n) s z step = step n (upto f n s) (le_refl (suc n)) (upto-keeps P f n s z (λ i t h. step i t (le_step h)))
+  upto_keeps P f zero s z step = z
+  upto_keeps P f (suc n) s z step = step n (upto f n s) (le_refl (suc n)) (upto_keeps P f n s z (λ i t h. step i t (le_step h)))
 
-  pub between-keeps : (P : ℕ → S → Type 0) (f : ℕ → S → S) (a b : ℕ) (s : S) → a ≤ b → P a s
+  pub between_keeps : (P : ℕ → S → Type 0) (f : ℕ → S → S) (a b : ℕ) (s : S) → a ≤ b → P a s
       → ((i : ℕ) (t : S) → a ≤ i → i < b → P i t → P (suc i) (f i t)) → P b (between f a b s)
   unfolding between
-  between-keeps P f a b s h z step =
+  between_keeps P f a b s h z step =
       subst (λ (k : ℕ). P k (upto (λ t. f (a + t)) (b - a) s)) (add-sub_of_le h)
-      (upto-keeps (λ k. P (a + k)) (λ t. f (a + t)) (b - a) s
+      (upto_keeps (λ k. P (a + k)) (λ t. f (a + t)) (b - a) s
       (let e : a + 0 ≡ a = omega arith in rw e z)
       (λ i t hi p. let e : a + suc i ≡ suc (a + i) = omega arith in rw e (step (a + i) t (omega arith) (omega arith) p)))
 

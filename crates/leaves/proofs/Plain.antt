@@ -202,6 +202,8 @@ zero_by y = refl
 plain_by : (x y : Float) → Plus x → T (fits binary64 x) → finish (sums plus_zero x plus_zero y plus_zero) ≡ root_s x
 plain_by nan y lost f = nan_by y
 plain_by (inf false) y endless f = infinity_by y
+plain_by (inf true) y x f = elim x [ ]
+plain_by (fin true _ e) y x f = elim x [ ]
 plain_by (fin false zero e) y some f = rw (zero_exponent e f) (zero_by y)
 plain_by (fin false (suc m) e) y some f = by_middle (fin false (suc m) e) y (not_zero false m e) (middle_is (fin false (suc m) e) y (some-least m e) (over_some m e) (mul_one m e f))
 

@@ -8,7 +8,6 @@ use native.Mathlib.Omega.{arith}
 use lib.Dec.{ltb, eqb}
 use borrow.Author.Tests.{ltb-true, eq-eqb}
 use Rattle.leaves.specs.Tests.{Test, first_of}
-use Rattle.leaves.proofs.Overs.{over}
 use Rattle.leaves.specs.Refusing.{NoneHold, RefusedBy}
 
 -- every number is a refusal's: none is 0. It computes: `refl` for a call's list.

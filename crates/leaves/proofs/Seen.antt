@@ -58,26 +58,26 @@ ranges_of_has (v ∷ vs) (suc k) h = either-more (ranges v) (ranges_of vs) (rang
 
 -- ---- a loop that hands on what it has seen: f is its turn, g the vectors that a turn measures
 module _ {S : Type 0} (g : ℕ → S → List (List Float)) (f : ℕ → S → S) (seen₀ : Ranges) (s₀ : S) where
-  pub along-none : seen₀ ≡ either seen₀ (ranges_of (along g f 0 s₀))
+  pub along_none : seen₀ ≡ either seen₀ (ranges_of (along g f 0 s₀))
   unfolding along ranges_of
-  along-none = sym (either_none seen₀)
+  along_none = sym (either_none seen₀)
 
-  pub along-turn : (i : ℕ) {s : S} {seen seen' : Ranges} → seen ≡ either seen₀ (ranges_of (along g f i s₀)) → s ≡ upto f i s₀ → seen' ≡ either seen (ranges_of (g i s))
+  pub along_turn : (i : ℕ) {s : S} {seen seen' : Ranges} → seen ≡ either seen₀ (ranges_of (along g f i s₀)) → s ≡ upto f i s₀ → seen' ≡ either seen (ranges_of (g i s))
       → seen' ≡ either seen₀ (ranges_of (along g f (i + 1) s₀))
   unfolding along
-  along-turn i {s} {seen} e inv h =
+  along_turn i {s} {seen} e inv h =
       h ∙ ap (λ (x : Ranges). either x (ranges_of (g i s))) e ∙ ap (λ (t : S). either (either seen₀ (ranges_of (along g f i s₀))) (ranges_of (g i t))) inv
       ∙ either-more seen₀ (ranges_of (along g f i s₀)) (ranges_of (g i (upto f i s₀)))
       ∙ ap (either seen₀) (sym (ranges_of-append (along g f i s₀) (g i (upto f i s₀)))) ∙ rw add-one refl
 
-  pub along-between-none : (a : ℕ) → seen₀ ≡ either seen₀ (ranges_of (along_between g f a a s₀))
+  pub along_between_none : (a : ℕ) → seen₀ ≡ either seen₀ (ranges_of (along_between g f a a s₀))
   unfolding along_between along ranges_of
-  along-between-none a = rw sub_self (sym (either_none seen₀))
+  along_between_none a = rw sub_self (sym (either_none seen₀))
 
-  pub along-between-turn : (a i : ℕ) {s : S} {seen seen' : Ranges} → a ≤ i → seen ≡ either seen₀ (ranges_of (along_between g f a i s₀)) → s ≡ between f a i s₀
+  pub along_between_turn : (a i : ℕ) {s : S} {seen seen' : Ranges} → a ≤ i → seen ≡ either seen₀ (ranges_of (along_between g f a i s₀)) → s ≡ between f a i s₀
       → seen' ≡ either seen (ranges_of (g i s)) → seen' ≡ either seen₀ (ranges_of (along_between g f a (i + 1) s₀))
   unfolding along_between along between
-  along-between-turn a i {s} {seen} le e inv h =
+  along_between_turn a i {s} {seen} le e inv h =
       let n : i + 1 - a ≡ suc (i - a) = omega arith in
       let before = along (λ t. g (a + t)) (λ t. f (a + t)) (i - a) s₀ in
       let there = upto (λ t. f (a + t)) (i - a) s₀ in

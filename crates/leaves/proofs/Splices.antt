@@ -36,46 +36,46 @@ module _ {A : Type 0} where
   drop-sum a n s = let e : a + n - a ≡ n = omega arith in drop-take a (a + n) s ∙ ap (λ (k : ℕ). take k (drop a s)) e
 
   -- a part, and what comes after it
-  pub part-rest : (a n : ℕ) {b : ℕ} (s : List A) → a + n ≡ b → take n (drop a s) ++ drop b s ≡ drop a s
-  part-rest a n s e = rw (← e, ← drop-drop n a s) (take-append-drop n (drop a s))
+  pub part_rest : (a n : ℕ) {b : ℕ} (s : List A) → a + n ≡ b → take n (drop a s) ++ drop b s ≡ drop a s
+  part_rest a n s e = rw (← e, ← drop-drop n a s) (take-append-drop n (drop a s))
 
   -- what comes after a first part
   pub drop_past : (a : ℕ) {b n : ℕ} (x y : List A) → length x ≡ n → n + a ≡ b → drop b (x ++ y) ≡ drop a y
   drop_past a {b} {n} x y h e = rw (← e, ← drop-drop a n (x ++ y), drop_at x y n h)
 
   -- what comes after a first part that was lent
-  pub drop-front : (n a : ℕ) (x s : List A) → length x ≡ n → drop (n + a) (x ++ drop n s) ≡ drop (n + a) s
-  drop-front n a x s h = drop_past a x (drop n s) h refl ∙ drop-drop a n s
+  pub drop_front : (n a : ℕ) (x s : List A) → length x ≡ n → drop (n + a) (x ++ drop n s) ≡ drop (n + a) s
+  drop_front n a x s h = drop_past a x (drop n s) h refl ∙ drop-drop a n s
 
   module _ (a e : ℕ) (y s : List A) (h : a + length y ≡ e) (f : e ≤ length s) where
-    head-long : length (take a s) ≡ a
-    head-long = length-take-le a s (omega arith)
+    head_long : length (take a s) ≡ a
+    head_long = length-take-le a s (omega arith)
 
-    pub splice-length : length (splice a e y s) ≡ length s
-    splice-length = let l = head-long in simp (length-append, length-drop) (omega arith)
+    pub splice_length : length (splice a e y s) ≡ length s
+    splice_length = let l = head_long in simp (length-append, length-drop) (omega arith)
 
-    pub splice-take : (n : ℕ) → n ≤ a → take n (splice a e y s) ≡ take n s
-    splice-take n k = let l = head-long in take-append-le n (take a s) (y ++ drop e s) (omega arith) ∙ take-take n a s k
+    pub splice_take : (n : ℕ) → n ≤ a → take n (splice a e y s) ≡ take n s
+    splice_take n k = let l = head_long in take-append-le n (take a s) (y ++ drop e s) (omega arith) ∙ take-take n a s k
 
     -- a part before it
-    pub splice-before : (p n : ℕ) → p + n ≤ a → take n (drop p (splice a e y s)) ≡ take n (drop p s)
-    splice-before p n k = sym (drop-sum p n (splice a e y s)) ∙ ap (λ (l : List A). drop p l) (splice-take (p + n) k) ∙ drop-sum p n s
+    pub splice_before : (p n : ℕ) → p + n ≤ a → take n (drop p (splice a e y s)) ≡ take n (drop p s)
+    splice_before p n k = sym (drop-sum p n (splice a e y s)) ∙ ap (λ (l : List A). drop p l) (splice_take (p + n) k) ∙ drop-sum p n s
 
     -- it
     pub splice_at : (n : ℕ) → length y ≡ n → take n (drop a (splice a e y s)) ≡ y
-    splice_at n k = rw (drop_at (take a s) (y ++ drop e s) a head-long) (take_at y (drop e s) n k)
+    splice_at n k = rw (drop_at (take a s) (y ++ drop e s) a head_long) (take_at y (drop e s) n k)
 
     -- what comes after it
-    pub splice-drop : (p : ℕ) → e ≤ p → drop p (splice a e y s) ≡ drop p s
-    splice-drop p k =
+    pub splice_drop : (p : ℕ) → e ≤ p → drop p (splice a e y s) ≡ drop p s
+    splice_drop p k =
         let q : p ≡ e + (p - e) = omega arith in
-        let l : length (take a s ++ y) ≡ e = let z = head-long in length-append (take a s) y ∙ omega arith in
+        let l : length (take a s ++ y) ≡ e = let z = head_long in length-append (take a s) y ∙ omega arith in
         rw (q, ← drop-drop (p - e) e (splice a e y s), ← append_assoc (take a s) y (drop e s), drop_at (take a s ++ y) (drop e s) e l) (drop-drop (p - e) e s)
 
   -- two parts side by side: put at once is put one after the other
-  pub splice-twice : (a b e : ℕ) (y z s : List A) → a + length y ≡ b → b + length z ≡ e → e ≤ length s → splice a e (y ++ z) s ≡ splice b e z (splice a b y s)
-  splice-twice a b e y z s h k f =
+  pub splice_twice : (a b e : ℕ) (y z s : List A) → a + length y ≡ b → b + length z ≡ e → e ≤ length s → splice a e (y ++ z) s ≡ splice b e z (splice a b y s)
+  splice_twice a b e y z s h k f =
       let w : length (take a s) ≡ a = length-take-le a s (omega arith) in
       let l : length (take a s ++ y) ≡ b = length-append (take a s) y ∙ omega arith in
       let front : take b (splice a b y s) ≡ take a s ++ y = ap (λ (x : List A). take b x) (sym (append_assoc (take a s) y (drop b s))) ∙ take_at (take a s ++ y) (drop b s) b l in
-      sym (rw (front, splice-drop a b y s h (omega arith) e (omega arith), append_assoc (take a s) y (z ++ drop e s), append_assoc y z (drop e s)))
+      sym (rw (front, splice_drop a b y s h (omega arith) e (omega arith), append_assoc (take a s) y (z ++ drop e s), append_assoc y z (drop e s)))

@@ -51,26 +51,26 @@ diagonal-length j [] = refl
 diagonal-length j (c ∷ cs) = ap suc (diagonal-length (suc j) cs)
 
 module _ (n : ℕ) (s : List Float) (q : Square n s) (k : ℕ) (h : k < n) where
-  in-columns : k < length (columns n n s)
-  in-columns = let e = columns-length n n s in omega arith
+  in_columns : k < length (columns n n s)
+  in_columns = let e = columns-length n n s in omega arith
 
-  pub column-end : k * n + n ≤ length s
-  column-end = let e = q.whole in omega (arith, column_fits k n n h)
+  pub column_end : k * n + n ≤ length s
+  column_end = let e = q.whole in omega (arith, column_fits k n n h)
 
   -- column k of R is the first k + 1 of column k of the square
-  pub upper-at : get_or (uppers_of n s) k [] ≡ take (suc k) (drop (k * n) s)
-  upper-at =
+  pub upper_at : get_or (uppers_of n s) k [] ≡ take (suc k) (drop (k * n) s)
+  upper_at =
       let e : 0 + k ≡ k = zero-add k in
-      uppers_from_at 0 k (columns n n s) in-columns ∙ rw (e, column_at n n k s h) (take-take (suc k) n (drop (k * n) s) h)
+      uppers_from_at 0 k (columns n n s) in_columns ∙ rw (e, column_at n n k s h) (take-take (suc k) n (drop (k * n) s) h)
 
   pub upper_long : length (get_or (uppers_of n s) k []) ≡ suc k
-  upper_long = let e = column-end in ap length upper-at ∙ simp (length-take, length-drop) (omega arith)
+  upper_long = let e = column_end in ap length upper_at ∙ simp (length-take, length-drop) (omega arith)
 
   pub upper-cell : (i : ℕ) → i ≤ k → get_or (get_or (uppers_of n s) k []) i nan ≡ get_or s (k * n + i) nan
-  upper-cell i l = rw upper-at (get_or-take (suc k) (drop (k * n) s) i nan (omega arith) ∙ get_or-drop (k * n) s i nan)
+  upper-cell i l = rw upper_at (get_or-take (suc k) (drop (k * n) s) i nan (omega arith) ∙ get_or-drop (k * n) s i nan)
 
-  pub diagonal-at : get_or (diagonal (uppers_of n s)) k nan ≡ get_or s (k * n + k) nan
-  diagonal-at =
+  pub diagonal_at : get_or (diagonal (uppers_of n s)) k nan ≡ get_or s (k * n + k) nan
+  diagonal_at =
       let e : 0 + k ≡ k = zero-add k in
       let l : k < length (uppers_of n s) = let a = uppers-length 0 (columns n n s) in let b = columns-length n n s in omega arith in
       diagonal_from_at 0 k (uppers_of n s) l ∙ rw e (upper-cell k (omega arith))
@@ -79,10 +79,10 @@ module _ (n : ℕ) (s : List Float) (q : Square n s) (k : ℕ) (h : k < n) where
   pub below_at : get_or (belows_of n s) k [] ≡ drop (suc k) (take n (drop (k * n) s))
   below_at =
       let e : 0 + k ≡ k = zero-add k in
-      belows_from_at 0 k (columns n n s) in-columns ∙ rw (e, column_at n n k s h)
+      belows_from_at 0 k (columns n n s) in_columns ∙ rw (e, column_at n n k s h)
 
-  pub below-long : length (get_or (belows_of n s) k []) ≡ n - suc k
-  below-long = let e = column-end in ap length below_at ∙ simp (length-take, length-drop) (omega arith)
+  pub below_long : length (get_or (belows_of n s) k []) ≡ n - suc k
+  below_long = let e = column_end in ap length below_at ∙ simp (length-take, length-drop) (omega arith)
 
 pub uppers_of-length : (n : ℕ) (s : List Float) → length (uppers_of n s) ≡ n
 uppers_of-length n s = uppers-length 0 (columns n n s) ∙ columns-length n n s

@@ -13,7 +13,7 @@ const RDWARF: f64 = 3.834e-20;
 const RGIANT: f64 = 1.304e19;
 
 // The sums of squares of large, middle and small entries, and the largest of the large and of the small ones.
-#[derive(Drop)]
+#[derive(Clone, Copy)]
 pub struct Sums {
     pub s1: f64,
     pub s2: f64,
@@ -107,7 +107,7 @@ fn step(agiant: f64, t: Sums, x: f64) -> Sums
 }
 
 // Which of the rule's ranges took part in a norm: an entry that is small and not zero, an entry that is large (02, #106).
-#[derive(Drop)]
+#[derive(Clone, Copy)]
 pub struct Ranges {
     pub small: bool,
     pub large: bool,
@@ -140,7 +140,7 @@ fn finish(t: Sums) -> f64
 
 // A norm, or the number of a refusal: 0 for none; and the ranges that took part. By value, so that it stays in registers; an enum that
 // carries a number goes through memory (docs/DECISIONS.md, D65).
-#[derive(Drop)]
+#[derive(Clone, Copy)]
 pub struct Normed {
     pub value: f64,
     pub refusal: u8,

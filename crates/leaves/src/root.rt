@@ -29,14 +29,14 @@ ghost use Rattle.leaves.specs.Root.{root_s, near_root};
 ghost use Rattle.leaves.specs.inner.Parts.{Normed, Digit, packed, magnitude};
 
 // t and z of the derivation: n has z digits, and t the same moved to 53.
-#[derive(Drop)]
+#[derive(Clone, Copy)]
 pub struct Norm {
     pub t: u64,
     pub z: u64,
 }
 
 // s and rem of the derivation.
-#[derive(Drop)]
+#[derive(Clone, Copy)]
 pub struct Going {
     pub s: u64,
     pub rem: u64,

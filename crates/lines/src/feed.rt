@@ -5,7 +5,7 @@ ghost use Rattle.lines.specs.Feed.{fed_from};
 use std::num::wrapping_add_usize;
 
 // The place of what is left of the chunk; how many bytes of the line have come, whether or not its room holds them; whether it ended.
-#[derive(Drop)]
+#[derive(Clone, Copy)]
 pub struct Fed {
     pub next: usize,
     pub fill: usize,

@@ -7,7 +7,7 @@ use text::double::of_bits;
 use text::read::Read;
 
 // A number, and the place of the word after it.
-#[derive(Drop)]
+#[derive(Clone, Copy)]
 pub struct Number {
     pub value: u64,
     pub next: usize,
@@ -15,7 +15,7 @@ pub struct Number {
 }
 
 // How many doubles were read into a room; where that is not good, whether they were too many for it.
-#[derive(Drop)]
+#[derive(Clone, Copy)]
 pub struct Span {
     pub len: usize,
     pub next: usize,

@@ -24,7 +24,7 @@ use Rattle.factor.specs.declared.state.State.{State}
 use Rattle.measures.specs.Gradient.{measures, largest, gradient, above, above_limit}
 use Rattle.measures.specs.Measures.{gradient_call, above_tests, above_call}
 use Rattle.measures.proofs.Measured.{gradient_tests, above-worked}
-use Rattle.measures.proofs.Comparing.{finite_not_nan, max-number, max-finite, max-above-first, max-above-second, max-not-above, max_infinite, infinite_max}
+use Rattle.measures.proofs.Comparing.{finite_not_nan_lem, max_number, max-finite, max-above_first, max-above-second, max-not_above, max_infinite, infinite_max}
 use Rattle.measures.proofs.gradient.Gradients.{largest_is, largest-more, above_not, above_is, above_on, above_none}
 
 -- ---- what the measures are: absolute values
@@ -87,21 +87,21 @@ stays : (limit top : Float) {g : Float} (xs : List Float) → is_nan top ≡ fal
 stays limit top [] n h e = ap (lt limit) (sym (answered-end top e)) ∙ h
 stays limit top (x ∷ xs) n h e =
     let t = answered_turn top x xs e in
-    stays limit (max_of top x) xs (max-number top x n t.0) (max-above-first top x n limit t.0 h) t.1
+    stays limit (max_of top x) xs (max_number top x n t.0) (max-above_first top x n limit t.0 h) t.1
 
 agrees : (limit top : Float) {g : Float} (xs : List Float) → Absolute xs → is_nan top ≡ false → lt limit top ≡ false → largest top xs ≡ answered g
     → above limit xs ≡ answered (lt limit g)
 agrees limit top [] a n h e = sym (above_none limit) ∙ ap answered (sym (ap (lt limit) (sym (answered-end top e)) ∙ h))
 agrees limit top {g} (x ∷ xs) a n h e =
     let t = answered_turn top x xs e in
-    by t.0 t.1 (agrees limit (max_of top x) xs a.1 (max-number top x n t.0)) (is_finite x) refl (lt limit x) refl
+    by t.0 t.1 (agrees limit (max_of top x) xs a.1 (max_number top x n t.0)) (is_finite x) refl (lt limit x) refl
   where
     by : is_nan x ≡ false → largest (max_of top x) xs ≡ answered g
         → (lt limit (max_of top x) ≡ false → largest (max_of top x) xs ≡ answered g → above limit xs ≡ answered (lt limit g))
         → (f : Bool) → is_finite x ≡ f → (l : Bool) → lt limit x ≡ l → above limit (x ∷ xs) ≡ answered (lt limit g)
     by m r ih true f true l =
-        sym (above_is limit x xs f l) ∙ ap answered (sym (stays limit (max_of top x) xs (max-number top x n m) (max-above-second top x n limit l) r))
-    by m r ih true f false l = sym (above_on limit x xs f l) ∙ ih (max-not-above top x n limit h l) r
+        sym (above_is limit x xs f l) ∙ ap answered (sym (stays limit (max_of top x) xs (max_number top x n m) (max-above-second top x n limit l) r))
+    by m r ih true f false l = sym (above_on limit x xs f l) ∙ ih (max-not_above top x n limit h l) r
     by m r ih false f l k =
         let i = infinite x a.0 m f in
         never xs (ap (λ (y : Float). largest y xs) (sym (ap (max_of top) i ∙ max_infinite top n)) ∙ r)
@@ -208,8 +208,8 @@ module _ (limit : Float) where
   not_yes h = absurd (true≢false (sym (answered-same h)))
 
   -- 'answered true exactly when the measures are some finite ones, none above the limit, then a finite one above it, then anything'
-  pub above-says-yes : (ms : List Float) → (above limit ms ≡ answered true) ↔ EndedBy limit (Above limit) ms
-  above-says-yes ms = (λ h. from h (ways ms), yes_back)
+  pub above_says_yes : (ms : List Float) → (above limit ms ≡ answered true) ↔ EndedBy limit (Above limit) ms
+  above_says_yes ms = (λ h. from h (ways ms), yes_back)
     where
       from : above limit ms ≡ answered true → Ways ms → EndedBy limit (Above limit) ms
       from h (inl w) = not_yes (sym (no_back ms w) ∙ h)
@@ -217,8 +217,8 @@ module _ (limit : Float) where
       from h (inr (inr r)) = refused-answered (sym (eight_back r) ∙ h)
 
   -- 'refused 8 exactly when there is a non-finite measure and no one before it is above the limit'
-  pub above-refused-eight : (ms : List Float) → (above limit ms ≡ refused 8) ↔ EndedBy limit NotFinite ms
-  above-refused-eight ms = (λ h. from h (ways ms), eight_back)
+  pub above-refused_eight : (ms : List Float) → (above limit ms ≡ refused 8) ↔ EndedBy limit NotFinite ms
+  above-refused_eight ms = (λ h. from h (ways ms), eight_back)
     where
       from : above limit ms ≡ refused 8 → Ways ms → EndedBy limit NotFinite ms
       from h (inl w) = answered-refused (sym (no_back ms w) ∙ h)
@@ -226,8 +226,8 @@ module _ (limit : Float) where
       from h (inr (inr r)) = r
 
   -- 'otherwise, with no non-finite one and none above, answered false'
-  pub above-says-no : (ms : List Float) → (above limit ms ≡ answered false) ↔ NoneAbove limit ms
-  above-says-no ms = (λ h. from h (ways ms), no_back ms)
+  pub above_says_no : (ms : List Float) → (above limit ms ≡ answered false) ↔ NoneAbove limit ms
+  above_says_no ms = (λ h. from h (ways ms), no_back ms)
     where
       from : above limit ms ≡ answered false → Ways ms → NoneAbove limit ms
       from h (inl w) = w
@@ -238,8 +238,8 @@ module _ (limit : Float) where
 finite-answered : (limit : Float) (top : Float) (xs : List Float) → is_finite top ≡ true → NoneAbove limit xs → (g : Float) × (largest top xs ≡ answered g)
 finite-answered limit top [] f h = (top, sym (largest_is top f))
 finite-answered limit top (x ∷ xs) f h =
-    let n = finite_not_nan x h.0.0 in
-    let r = finite-answered limit (max_of top x) xs (max-finite top x (finite_not_nan top f) f h.0.0) h.1 in
+    let n = finite_not_nan_lem x h.0.0 in
+    let r = finite-answered limit (max_of top x) xs (max-finite top x (finite_not_nan_lem top f) f h.0.0) h.1 in
     (r.0, sym (largest-more top x xs (is_nan_lem x ∙ n)) ∙ r.1)
 
 -- 'Where the full gradient is refused 8, the question may have said yes already [..] and is refused 8 otherwise': it never says no

@@ -122,36 +122,36 @@ lt_trans : (l t x : Float) → is_nan x ≡ false → lt l t ≡ true → lt t x
 lt_trans l t x n h k = lt_between l x t n h (lt_turned t x k)
 
 -- ---- the larger of two numbers
-pub finite_not_nan : (x : Float) → is_finite x ≡ true → is_nan x ≡ false
+pub finite_not_nan_lem : (x : Float) → is_finite x ≡ true → is_nan x ≡ false
 unfolding is_finite is_nan
-finite_not_nan nan h = sym h
-finite_not_nan (inf s) h = refl
-finite_not_nan (fin s m e) h = refl
+finite_not_nan_lem nan h = sym h
+finite_not_nan_lem (inf s) h = refl
+finite_not_nan_lem (fin s m e) h = refl
 
 module _ (a b : Float) (n : is_nan a ≡ false) where
   -- it is one of them
-  max-one : (P : Float → Type 0) → (lt a b ≡ true → P b) → (lt a b ≡ false → P a) → P (max_of a b)
-  max-one P p q = by (lt a b) refl
+  max_one : (P : Float → Type 0) → (lt a b ≡ true → P b) → (lt a b ≡ false → P a) → P (max_of a b)
+  max_one P p q = by (lt a b) refl
     where
       by : (t : Bool) → lt a b ≡ t → P (max_of a b)
       by true e = subst P (sym (max_by a b true n e)) (p e)
       by false e = subst P (sym (max_by a b false n e)) (q e)
 
-  pub max-number : is_nan b ≡ false → is_nan (max_of a b) ≡ false
-  max-number h = max-one (λ x. is_nan x ≡ false) (λ _. h) (λ _. n)
+  pub max_number : is_nan b ≡ false → is_nan (max_of a b) ≡ false
+  max_number h = max_one (λ x. is_nan x ≡ false) (λ _. h) (λ _. n)
 
   pub max-finite : is_finite a ≡ true → is_finite b ≡ true → is_finite (max_of a b) ≡ true
-  max-finite h k = max-one (λ x. is_finite x ≡ true) (λ _. k) (λ _. h)
+  max-finite h k = max_one (λ x. is_finite x ≡ true) (λ _. k) (λ _. h)
 
   module _ (limit : Float) where
-    pub max-above-first : is_nan b ≡ false → lt limit a ≡ true → lt limit (max_of a b) ≡ true
-    max-above-first m h = max-one (λ x. lt limit x ≡ true) (λ e. lt_trans limit a b m h e) (λ _. h)
+    pub max-above_first : is_nan b ≡ false → lt limit a ≡ true → lt limit (max_of a b) ≡ true
+    max-above_first m h = max_one (λ x. lt limit x ≡ true) (λ e. lt_trans limit a b m h e) (λ _. h)
 
     pub max-above-second : lt limit b ≡ true → lt limit (max_of a b) ≡ true
-    max-above-second h = max-one (λ x. lt limit x ≡ true) (λ _. h) (λ e. lt_between limit a b n h e)
+    max-above-second h = max_one (λ x. lt limit x ≡ true) (λ _. h) (λ e. lt_between limit a b n h e)
 
-    pub max-not-above : lt limit a ≡ false → lt limit b ≡ false → lt limit (max_of a b) ≡ false
-    max-not-above h k = max-one (λ x. lt limit x ≡ false) (λ _. k) (λ _. h)
+    pub max-not_above : lt limit a ≡ false → lt limit b ≡ false → lt limit (max_of a b) ≡ false
+    max-not_above h k = max_one (λ x. lt limit x ≡ false) (λ _. k) (λ _. h)
 
 -- infinity is the largest
 pub max_infinite : (a : Float) → is_nan a ≡ false → max_of a (inf false) ≡ inf false

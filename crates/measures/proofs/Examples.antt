@@ -66,7 +66,7 @@ abbrev claimed : Float → Float → Float → Told ℕ
 claimed a b c =
     determined_call (record { m = 3; n = 3; held = Nothing }) (a ∷ w 0 ∷ w 0 ∷ w 0 ∷ b ∷ w 0 ∷ w 0 ∷ w 0 ∷ c ∷ replicate 12 plus_zero)
 
-pub determined-examples :
+pub determined_examples :
     (count (square (fraction 1 51)) ≡ answered 1)
     × (count (square (fraction (2 ^ 52 + 1) 103)) ≡ answered 2)
     × (count wide ≡ answered 1)
@@ -77,7 +77,7 @@ pub determined-examples :
     × ((claimed nan (w 1) (w 1)).reply ≡ answered 0)
     × ((claimed (inf false) (w 1) (w 1)).reply ≡ answered 0)
 unfolding opened
-determined-examples = (refl, refl, refl, refl, refl, refl, refl, refl, refl)
+determined_examples = (refl, refl, refl, refl, refl, refl, refl, refl, refl)
 
 -- ---- 02, #106: the norm of Jx has a number for each column, so that 4e18 is large among four columns and not alone; and zeros are neither
 abbrev opening : ℕ → ℕ → State
@@ -97,7 +97,7 @@ two a b = (jx_call (opening 2 2) (1 ∷ 0 ∷ []) (w 1 ∷ w 1 ∷ []) (a ∷ w 
 abbrev scaled : Mode → Reply Scaled
 scaled md = (scaling_call (opening 1 1) md (w 1 ∷ []) (w 1 ∷ []) (w 1) (w 1 ∷ w 0 ∷ w (10 ^ 20) ∷ w 0 ∷ w 0 ∷ [])).reply
 
-pub flag-examples :
+pub flag_examples :
     (four ≡ answered (w (4 * 10 ^ 18), flags false true))
     × (alone ≡ answered (w (4 * 10 ^ 18), neither))
     × (two (w (10 ^ 20)) (fraction 1 70) ≡ answered (w (10 ^ 20), flags true true))
@@ -108,7 +108,7 @@ pub flag-examples :
     × (scaled mode.LaterScaled ≡ answered (later neither))
     × (scaled mode.LaterUnscaled ≡ answered (later neither))
 unfolding opened
-flag-examples = (refl, refl, refl, refl, refl, refl, refl, refl, refl)
+flag_examples = (refl, refl, refl, refl, refl, refl, refl, refl, refl)
 
 -- ---- 02, #105: is the gradient above the limit? I's is 1, and J's 0; I's with its norms in the order of the columns would be 4/3
 abbrev asked : Factored → Float → Float → Reply Bool
@@ -120,7 +120,7 @@ gradient_at f bnorm = (gradient_call f.state f.order bnorm f.store).reply
 abbrev minus : ℕ → Float
 minus n = round binary64 true n 1
 
-pub above-examples :
+pub above_examples :
     (asked I (w 8) (w 1) ≡ answered false)
     × (asked I (w 8) (fraction (2 ^ 53 - 1) 53) ≡ answered true)
     × (asked J (w 1) (w 0) ≡ answered false)
@@ -133,7 +133,7 @@ pub above-examples :
     × (asked I (w 0) nan ≡ refused 6)
     × (asked I (w 0) (w 1) ≡ refused 7)
 unfolding opened
-above-examples = (refl, refl, refl, refl, refl, refl, refl, refl, refl, refl, refl)
+above_examples = (refl, refl, refl, refl, refl, refl, refl, refl, refl, refl, refl)
 
 -- J = diag(2, 1): at residual norm 1e-310 the measure of a residual of 1e-300 is 1e10, that of 1 infinite
 abbrev steep : Float → Float → Factored
@@ -142,7 +142,7 @@ steep a b = factor_call 2 2 (w 2 ∷ w 0 ∷ w 0 ∷ w 1 ∷ []) (a ∷ b ∷ []
 abbrev least : ℕ → Float
 least k = round binary64 false 1 (10 ^ k)
 
-pub steep-examples :
+pub steep_examples :
     (asked (steep (least 300) (w 1)) (least 310) (w 1) ≡ answered true)
     × (asked (steep (least 300) (w 1)) (least 310) (w (10 ^ 11)) ≡ refused 8)
     × (gradient_at (steep (least 300) (w 1)) (least 310) ≡ refused 8)
@@ -150,7 +150,7 @@ pub steep-examples :
     × (asked (steep (w 1) (least 300)) (least 310) (w 0) ≡ refused 8)
     × (asked (steep nan nan) (w 1) (w 0) ≡ refused 5)
 unfolding opened
-steep-examples = (refl, refl, refl, refl, refl, refl)
+steep_examples = (refl, refl, refl, refl, refl, refl)
 
 -- a store that no factoring left: R = diag(5, 1), qt_b = (1, b), these norms, and NaN in work
 abbrev lent : Float → Float → List Float → List Float
@@ -160,7 +160,7 @@ abbrev asked_in : Float → Float → Float → Told Bool
 asked_in b s limit = above_call (opening 2 2) (0 ∷ 1 ∷ []) (w 1) limit (lent b s (nan ∷ nan ∷ []))
 
 -- the column of norm zero is skipped, whatever is in R; a NaN after a yes is not looked at, and before it ends the question; work is +0 after each
-pub lent-examples :
+pub lent_examples :
     (asked_in (w 1) (w 0) (w 1) ≡ told (answered false) (opening 2 2) (lent (w 1) (w 0) (w 0 ∷ w 0 ∷ [])))
     × (asked_in (w 2) (w 0) (w 1) ≡ told (answered true) (opening 2 2) (lent (w 2) (w 0) (w 0 ∷ w 0 ∷ [])))
     × (asked_in nan (w 1) (w 1) ≡ told (answered true) (opening 2 2) (lent nan (w 1) (w 0 ∷ w 0 ∷ [])))
@@ -168,4 +168,4 @@ pub lent-examples :
     × (asked_in (w 2) nan (w 1) ≡ told (refused 8) (opening 2 2) (lent (w 2) nan (w 0 ∷ w 0 ∷ [])))
     × (asked_in (w 1) (w 1) (minus 1) ≡ told (refused 7) (opening 2 2) (lent (w 1) (w 1) (nan ∷ nan ∷ [])))
 unfolding opened
-lent-examples = (refl, refl, refl, refl, refl, refl)
+lent_examples = (refl, refl, refl, refl, refl, refl)

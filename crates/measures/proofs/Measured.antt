@@ -20,7 +20,7 @@ use Rattle.factor.specs.Solve.{gather, non_singular_of}
 use Rattle.measures.specs.Determined.{determined_of}
 use Rattle.measures.specs.inner.Counted.{counted_of}
 use Rattle.leaves.specs.Tests.{Test, first_of}
-use Rattle.factor.specs.Tests.{room_tests, order_test, finite_test, finite_number, not_above, below, solve_tests}
+use Rattle.factor.specs.Tests.{room_tests, order_test, finite_test, finite_not_nan, not_above, below, solve_tests}
 use Rattle.factor.specs.Outcome.{told}
 use Rattle.measures.specs.Measures.{finite_or_8, gradient_call, above_tests, above_call, jx_call, determined_call, non_singular_call}
 use Rattle.factor.specs.declared.state.State.{State}
@@ -41,7 +41,7 @@ one_inside h z = record { rows_some = omega arith; rows_few = omega arith; cols_
 -- ---- the gradient
 abbrev pub gradient_tests : State → ℕ → List ℕ → Float → List Test
 gradient_tests st store order bnorm =
-    room_tests st store (length order) ++ (order_test st order ∷ finite_number bnorm ∷ (not_above bnorm, 7) ∷ [])
+    room_tests st store (length order) ++ (order_test st order ∷ finite_not_nan bnorm ∷ (not_above bnorm, 7) ∷ [])
 
 -- the order list's tests, as the working asks them
 pub gradient_first : (st : State) (store : ℕ) (order : List ℕ) {c : ℕ} → c ≡ first_of (solve_tests st store order (length order))
@@ -52,7 +52,7 @@ pub gradient_passed : (st : State) (store : ℕ) (order : List ℕ) (bnorm : Flo
     → Ordered st store order (length order)
 gradient_passed st store order bnorm e z =
     let ts = room_tests st store (length order) ++ (order_test st order ∷ []) in
-    let us = finite_number bnorm ∷ (not_above bnorm, 7) ∷ [] in
+    let us = finite_not_nan bnorm ∷ (not_above bnorm, 7) ∷ [] in
     solve_passed st store order (length order)
     (ap first_of (order_alone st store order) ∙ earlier_passed ts us refl refl (sym e ∙ z))
 
@@ -77,7 +77,7 @@ module _ (st : State) (order : List ℕ) (bnorm : Float) (s : List Float) {c : �
 
 -- ---- the question beside it (02, #105): its own tests, after the order list's
 abbrev pub limit_tests : Float → Float → List Test
-limit_tests bnorm limit = finite_number bnorm ∷ finite_number limit ∷ (not_above bnorm, 7) ∷ (below limit, 7) ∷ []
+limit_tests bnorm limit = finite_not_nan bnorm ∷ finite_not_nan limit ∷ (not_above bnorm, 7) ∷ (below limit, 7) ∷ []
 
 module _ (st : State) (store : ℕ) (order : List ℕ) (bnorm limit : Float) where
   abbrev ordered : List Test
@@ -86,12 +86,12 @@ module _ (st : State) (store : ℕ) (order : List ℕ) (bnorm limit : Float) whe
   pub above-stopped : {c : ℕ} → c ≡ first_of (solve_tests st store order (length order)) → (c ≡ 0 → ⊥) → c ≡ first_of (above_tests st store order bnorm limit)
   above-stopped e h = sym (stopped ordered (limit_tests bnorm limit) _ (gradient_first st store order e) h)
 
-  pub above-went : {c k : ℕ} → c ≡ first_of (solve_tests st store order (length order)) → c ≡ 0 → k ≡ first_of (limit_tests bnorm limit)
+  pub above_went : {c k : ℕ} → c ≡ first_of (solve_tests st store order (length order)) → c ≡ 0 → k ≡ first_of (limit_tests bnorm limit)
       → k ≡ first_of (above_tests st store order bnorm limit)
-  above-went e z h = went_to ordered (limit_tests bnorm limit) refl (gradient_first st store order e) z h
+  above_went e z h = went_to ordered (limit_tests bnorm limit) refl (gradient_first st store order e) z h
 
-  pub above-passed : {c : ℕ} → c ≡ first_of (above_tests st store order bnorm limit) → c ≡ 0 → Ordered st store order (length order)
-  above-passed e z =
+  pub above_passed : {c : ℕ} → c ≡ first_of (above_tests st store order bnorm limit) → c ≡ 0 → Ordered st store order (length order)
+  above_passed e z =
       solve_passed st store order (length order)
       (ap first_of (order_alone st store order) ∙ earlier_passed ordered (limit_tests bnorm limit) refl refl (sym e ∙ z))
 
@@ -134,8 +134,8 @@ module _ (n : ℕ) (s : List Float) (order : List ℕ) (x : List Float) {v : Flo
   abbrev whole : Float
   whole = jx_norm_of (gather (take n order) x) (load n s).upper
 
-  abbrev took-part : Ranges
-  took-part = jx_ranges (gather (take n order) x) (load n s).upper
+  abbrev took_part : Ranges
+  took_part = jx_ranges (gather (take n order) x) (load n s).upper
 
   is : v ≡ whole
   is = e ∙ rw (square_upper n s)
@@ -143,49 +143,49 @@ module _ (n : ℕ) (s : List Float) (order : List ℕ) (x : List Float) {v : Flo
   finite : is_finite whole ≡ ok
   finite = ap is_finite (sym is) ∙ sym f
 
-  pair : ◌≡◌ {A = Float × Ranges} (v, seen) (whole, took-part)
+  pair : ◌≡◌ {A = Float × Ranges} (v, seen) (whole, took_part)
   pair = ap (λ (y : Float). (y, seen)) is ∙ ap (λ (r : Ranges). (whole, r)) (k ∙ rw (square_upper n s))
 
-  pub jx-finite : ok ≡ true → answered (v, seen) ≡ finite_or_8 whole took-part
-  jx-finite h = ap answered pair ∙ as_is whole took-part (finite ∙ h)
+  pub jx_finite : ok ≡ true → answered (v, seen) ≡ finite_or_8 whole took_part
+  jx_finite h = ap answered pair ∙ as_is whole took_part (finite ∙ h)
 
-  pub jx-infinite : ok ≡ false → refused 8 ≡ finite_or_8 whole took-part
-  jx-infinite h = as_eight whole took-part (finite ∙ h)
+  pub jx_infinite : ok ≡ false → refused 8 ≡ finite_or_8 whole took_part
+  jx_infinite h = as_eight whole took_part (finite ∙ h)
 
 module _ (st : State) (order : List ℕ) (x s : List Float) {c : ℕ} (e : c ≡ first_of (jx_tests st (length s) order x)) where
-  pub jx-refused : (c ≡ 0 → ⊥) → told (refused c) st s ≡ jx_call st order x s
+  pub jx_refused : (c ≡ 0 → ⊥) → told (refused c) st s ≡ jx_call st order x s
   unfolding jx_call
-  jx-refused h = call-refused _ (λ k. told (refused k) st s) _ c (sym e) (ne_eqb c 0 h)
+  jx_refused h = call-refused _ (λ k. told (refused k) st s) _ c (sym e) (ne_eqb c 0 h)
 
-  pub jx-worked : c ≡ 0 → {r : Reply (Float × Ranges)} {s' : List Float}
+  pub jx_worked : c ≡ 0 → {r : Reply (Float × Ranges)} {s' : List Float}
       → r ≡ finite_or_8 (jx_norm_of (gather (take st.n order) x) (load st.n s).upper) (jx_ranges (gather (take st.n order) x) (load st.n s).upper)
       → s' ≡ lay (rested (load st.n s)) → told r st s' ≡ jx_call st order x s
   unfolding jx_call
-  jx-worked z h l = rw (h, l) (call-worked _ (λ k. told (refused k) st s) _ (sym e ∙ z))
+  jx_worked z h l = rw (h, l) (call-worked _ (λ k. told (refused k) st s) _ (sym e ∙ z))
 
 -- ---- determined: o is R's diagonal, lent as the first n of a room
 module _ (n : ℕ) (room o : List Float) (h : length o ≡ n) where
   lent_again : take n (o ++ drop n room) ≡ o
   lent_again = take_at o (drop n room) n h
 
-  pub again-fits : n ≤ length (o ++ drop n room)
-  again-fits = simp length-append (omega arith)
+  pub again_fits : n ≤ length (o ++ drop n room)
+  again_fits = simp length-append (omega arith)
 
-  pub again-long : length (take n (o ++ drop n room)) ≡ n
-  again-long = ap length lent_again ∙ h
+  pub again_long : length (take n (o ++ drop n room)) ≡ n
+  again_long = ap length lent_again ∙ h
 
-  pub determined-law : (m : ℕ) (s : List Float) {k : ℕ} → o ≡ diagonal (load n s).upper
+  pub determined_law : (m : ℕ) (s : List Float) {k : ℕ} → o ≡ diagonal (load n s).upper
       → k ≡ counted_of m (take n (o ++ drop n room)) → k ≡ determined_of m (load n s).upper
   unfolding determined_of
-  determined-law m s e f = f ∙ ap (counted_of m) (lent_again ∙ e) ∙ rw (diagonal-length 0 (load n s).upper)
+  determined_law m s e f = f ∙ ap (counted_of m) (lent_again ∙ e) ∙ rw (diagonal-length 0 (load n s).upper)
 
 -- ---- determined, and whether A has rank n, as calls
 module _ (st : State) (s : List Float) {c : ℕ} (e : c ≡ first_of (room_tests st (length s) st.n)) where
-  pub rank-inside : c ≡ 0 → Inside st.m st.n
-  rank-inside z = (room_passed st (length s) st.n (sym e ∙ z)).sizes
+  pub rank_inside : c ≡ 0 → Inside st.m st.n
+  rank_inside z = (room_passed st (length s) st.n (sym e ∙ z)).sizes
 
-  pub rank-sized : c ≡ 0 → Sized st.n s
-  rank-sized z = passed_sized st s st.n (room_passed st (length s) st.n (sym e ∙ z))
+  pub rank_sized : c ≡ 0 → Sized st.n s
+  rank_sized z = passed_sized st s st.n (room_passed st (length s) st.n (sym e ∙ z))
 
   pub determined-refused : (c ≡ 0 → ⊥) → told (refused c) st s ≡ determined_call st s
   unfolding determined_call
@@ -196,15 +196,15 @@ module _ (st : State) (s : List Float) {c : ℕ} (e : c ≡ first_of (room_tests
   unfolding determined_call
   determined-worked z h l = rw (h, l) (call-worked _ (λ k. told (refused k) st s) _ (sym e ∙ z))
 
-  pub singular-refused : (c ≡ 0 → ⊥) → told (refused c) st s ≡ non_singular_call st s
+  pub singular_refused : (c ≡ 0 → ⊥) → told (refused c) st s ≡ non_singular_call st s
   unfolding non_singular_call
-  singular-refused h = call-refused _ (λ k. told (refused k) st s) _ c (sym e) (ne_eqb c 0 h)
+  singular_refused h = call-refused _ (λ k. told (refused k) st s) _ c (sym e) (ne_eqb c 0 h)
 
-  pub singular-worked : c ≡ 0 → {r : Reply Bool} {s' : List Float} → r ≡ full_rank st.m st.n s
+  pub singular_worked : c ≡ 0 → {r : Reply Bool} {s' : List Float} → r ≡ full_rank st.m st.n s
       → s' ≡ lay (rested (load st.n s)) → told r st s' ≡ non_singular_call st s
   unfolding non_singular_call
-  singular-worked z {r} {s'} h l =
-      let passed = tests_passed st.m st.n s st.n (rank-inside z) (rank-sized z) (le_refl st.n) in
+  singular_worked z {r} {s'} h l =
+      let passed = tests_passed st.m st.n s st.n (rank_inside z) (rank_sized z) (le_refl st.n) in
       ap (λ (a : Reply Bool). told a st s') (h ∙ full_rank_passed st.m st.n s passed)
       ∙ ap (λ (t : List Float). told (answered (non_singular_of st.m st.n (load st.n s).upper)) st t) l
       ∙ call-worked _ (λ k. told (refused k) st s) _ (sym e ∙ z)

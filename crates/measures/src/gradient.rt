@@ -23,7 +23,7 @@ use leaves::number::{abs, is_finite, max};
 use leaves::vector::fill;
 
 // The Rust gives None for a NaN; here that is refusal 8, as is a measure that is not finite.
-#[derive(Drop)]
+#[derive(Clone, Copy)]
 pub enum Gradient {
     Measure(f64),
     Refused(u8),

@@ -16,7 +16,7 @@ use leaves::number::{is_finite, max};
 use leaves::sizes::room16;
 use leaves::vector::all_finite;
 
-#[derive(Drop)]
+#[derive(Clone, Copy)]
 pub enum Mode {
     FirstScaled,
     FirstUnscaled,
@@ -24,14 +24,14 @@ pub enum Mode {
     LaterUnscaled,
 }
 
-#[derive(Drop)]
+#[derive(Clone, Copy)]
 pub struct Start {
     pub xnorm: f64,
     pub radius: f64,
 }
 
 // The first call alone gives xnorm and radius, and works out a norm; each answer carries the ranges that took part (02, #106).
-#[derive(Drop)]
+#[derive(Clone, Copy)]
 pub enum Scaling {
     First(Start, Ranges),
     Later(Ranges),

@@ -18,7 +18,7 @@ use leaves::number::is_finite;
 use leaves::sizes::{least, room16};
 use leaves::vector::all_finite;
 
-#[derive(Drop)]
+#[derive(Clone, Copy)]
 pub struct ScalingTold {
     pub answer: Scaling,
     pub state: State,

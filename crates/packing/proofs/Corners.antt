@@ -44,11 +44,11 @@ front_whole b dst all l e = sym (append_nil dst) ∙ (ap (λ (s : List Float). s
 
 -- ---- packing, column by column
 module _ (n k a b : ℕ) (square corner : List Float) where
-  pub pack-turn : (y rest : List Float) → k < n → b ≤ length corner → length y ≡ k + 1 → y ≡ take (k + 1) (drop a square)
+  pub pack_turn : (y rest : List Float) → k < n → b ≤ length corner → length y ≡ k + 1 → y ≡ take (k + 1) (drop a square)
       → take (b + k + 1) (take b corner ++ (y ++ rest)) ++ flat (uppers_from (k + 1) (columns n (n - (k + 1)) (drop (a + n) square)))
       ≡ take b corner ++ flat (uppers_from k (columns n (n - k) (drop a square)))
   unfolding flat uppers_from columns
-  pack-turn y rest h f l e =
+  pack_turn y rest h f l e =
       let p : n - k ≡ suc (n - (k + 1)) = omega arith in
       let q : b + k + 1 ≡ b + (k + 1) = omega arith in
       let t : take (suc k) (take n (drop a square)) ≡ take (suc k) (drop a square) = take-take (suc k) n (drop a square) h in
@@ -61,11 +61,11 @@ module _ (n k a b : ℕ) (square corner : List Float) where
 
 -- ---- unpacking, column by column
 module _ (n k a b : ℕ) (corner square : List Float) where
-  pub unpack-turn : (y rest : List Float) → k < n → a ≤ length square → length y ≡ n → y ≡ take (k + 1) (drop b corner) ++ zeros (n - (k + 1))
+  pub unpack_turn : (y rest : List Float) → k < n → a ≤ length square → length y ≡ n → y ≡ take (k + 1) (drop b corner) ++ zeros (n - (k + 1))
       → take (a + n) (take a square ++ (y ++ rest)) ++ joined (triangle_from (k + 1) (n - (k + 1)) (drop (b + k + 1) corner)) (no_lower (n - (k + 1)))
       ≡ take a square ++ joined (triangle_from k (n - k) (drop b corner)) (no_lower (n - k))
   unfolding joined triangle_from no_lower
-  unpack-turn y rest h f l e =
+  unpack_turn y rest h f l e =
       let p : n - k ≡ suc (n - (k + 1)) = omega arith in
       let q : b + k + 1 ≡ b + (k + 1) = omega arith in
       let u = front_next a n square y rest f l in
@@ -99,11 +99,11 @@ pub record Stairs (j p : ℕ) (us : List (List Float)) : Type 0 where
   pub tall : (k : ℕ) → k < p → length (get_or us k []) ≡ suc (j + k)
 
 module _ {j p : ℕ} {u : List Float} {us : List (List Float)} (h : Stairs j (suc p) (u ∷ us)) where
-  stairs-rest : Stairs (suc j) p us
-  stairs-rest = let w = h.wide in record { wide = omega arith; tall = λ k l. h.tall (suc k) (omega arith) ∙ omega arith }
+  stairs_rest : Stairs (suc j) p us
+  stairs_rest = let w = h.wide in record { wide = omega arith; tall = λ k l. h.tall (suc k) (omega arith) ∙ omega arith }
 
-  stairs-first : length u ≡ suc j
-  stairs-first = h.tall 0 (omega arith) ∙ omega arith
+  stairs_first : length u ≡ suc j
+  stairs_first = h.tall 0 (omega arith) ∙ omega arith
 
 pub flat_long : (j p : ℕ) (us : List (List Float)) → Stairs j p us → length (flat us) ≡ climb j p
 unfolding flat
@@ -111,8 +111,8 @@ flat_long j zero [] h = refl
 flat_long j zero (u ∷ us) h = let w = h.wide in absurd (omega arith)
 flat_long j (suc p) [] h = let w = h.wide in absurd (omega arith)
 flat_long j (suc p) (u ∷ us) h =
-    let r = flat_long (suc j) p us (stairs-rest h) in
-    let f = stairs-first h in
+    let r = flat_long (suc j) p us (stairs_rest h) in
+    let f = stairs_first h in
     length-append u (flat us) ∙ omega arith
 
 -- there and back
@@ -122,8 +122,8 @@ triangle_flat j zero [] w h = refl
 triangle_flat j zero (u ∷ us) w h = let w = h.wide in absurd (omega arith)
 triangle_flat j (suc p) [] w h = let w = h.wide in absurd (omega arith)
 triangle_flat j (suc p) (u ∷ us) w h =
-    let f = stairs-first h in
-    rw (append_assoc u (flat us) w, take_at u (flat us ++ w) (suc j) f, drop_at u (flat us ++ w) (suc j) f, triangle_flat (suc j) p us w (stairs-rest h))
+    let f = stairs_first h in
+    rw (append_assoc u (flat us) w, take_at u (flat us ++ w) (suc j) f, drop_at u (flat us ++ w) (suc j) f, triangle_flat (suc j) p us w (stairs_rest h))
 
 -- back and there
 pub flat_triangle : (j p : ℕ) (xs : List Float) → flat (triangle_from j p xs) ≡ take (climb j p) xs

@@ -78,7 +78,7 @@ no k st room places = put_away (refused k) st (junk room) places
 abbrev two : List ℕ
 two = 0 ∷ 1 ∷ []
 
-pub pack-refusals :
+pub pack_refusals :
     (try (holding held.Empty) 12 two 7 two ≡ no 5 (holding held.Empty) 7 two)
     × (try (state 0 2 held.Zero 0) 12 two 7 two ≡ no 2 (state 0 2 held.Zero 0) 7 two)
     × (try (state 129 2 held.Zero 0) 12 two 7 two ≡ no 2 (state 129 2 held.Zero 0) 7 two)
@@ -93,7 +93,7 @@ pub pack-refusals :
     × (try (state 2 2 held.Zero 32768) 12 (1 ∷ 0 ∷ []) 7 two ≡ no 4 (state 2 2 held.Zero 32768) 7 two)
     × (try (state 2 2 held.Zero 49152) 12 two 7 two ≡ no 9 (state 2 2 held.Zero 49152) 7 two)
 unfolding opened
-pack-refusals = (refl, refl, refl, refl, refl, refl, refl, refl, refl, refl, refl, refl, refl)
+pack_refusals = (refl, refl, refl, refl, refl, refl, refl, refl, refl, refl, refl, refl, refl)
 
 -- ---- and of unpacking, each with state, store and order as they were
 abbrev back : State → List Float → List ℕ → ℕ → List ℕ → PutAway
@@ -103,7 +103,7 @@ back st room places k order = unpack_call st room places (junk k) order
 abbrev spoilt : List Float
 spoilt = w 1 ∷ w 2 ∷ w 3 ∷ w 4 ∷ w 5 ∷ w 6 ∷ nan ∷ []
 
-pub unpack-refusals :
+pub unpack_refusals :
     (back (holding held.Empty) seven two 12 two ≡ no 5 (holding held.Empty) 12 two)
     × (back (state 0 2 held.Zero 0) seven two 12 two ≡ no 2 (state 0 2 held.Zero 0) 12 two)
     × (back (state 2 17 held.Zero 0) seven two 12 two ≡ no 2 (state 2 17 held.Zero 0) 12 two)
@@ -117,7 +117,7 @@ pub unpack-refusals :
     × (back (state 2 2 held.Zero 49152) spoilt two 12 two ≡ no 6 (state 2 2 held.Zero 49152) 12 two)
     × (back (state 2 2 held.Zero 49152) seven two 12 two ≡ no 9 (state 2 2 held.Zero 49152) 12 two)
 unfolding opened
-unpack-refusals = (refl, refl, refl, refl, refl, refl, refl, refl, refl, refl, refl, refl)
+unpack_refusals = (refl, refl, refl, refl, refl, refl, refl, refl, refl, refl, refl, refl)
 
 -- ---- document 01's case H, solved with a diagonal, packed, and unpacked over junk: the zero solve gives (0, 2), and before it nothing is held
 abbrev H : MarkedFactored

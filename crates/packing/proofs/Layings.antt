@@ -58,9 +58,9 @@ part_front : (a n w : ℕ) (xs : List Float) → a + n ≤ w → take n (drop a 
 part_front a n w xs h = rw (drop-take a w xs) (take-take n (w - a) (drop a xs) (omega arith))
 
 module _ (n : ℕ) (xs rest : List Float) where
-  pub unpacked-front : (w : ℕ) → pack_need n ≤ w → unpacked_room n (take w xs) rest ≡ unpacked_room n xs rest
+  pub unpacked_front : (w : ℕ) → pack_need n ≤ w → unpacked_room n (take w xs) rest ≡ unpacked_room n xs rest
   unfolding unpacked_room
-  unpacked-front w h =
+  unpacked_front w h =
       let c = climb_is n in
       let t = triangle_front 0 n w xs (omega arith) in
       let q = part_front (triangle n) n w xs (omega arith) in
@@ -75,16 +75,16 @@ module _ (n : ℕ) (room store : List Float) where
   twice y z = take (n * n) (once y) ++ (z ++ drop (n * n + 2 * n - n * n) (drop (n * n) (once y)))
 
   -- qt_b and the column norms
-  two-unpacked : length room ≡ pack_need n → take (length room - triangle n) (drop (triangle n) room) ≡ take n (drop (triangle n) room) ++ take n (drop n (drop (triangle n) room))
-  two-unpacked l = let e : length room - triangle n ≡ n + n = omega arith in rw e (take-add n n (drop (triangle n) room))
+  two_unpacked : length room ≡ pack_need n → take (length room - triangle n) (drop (triangle n) room) ≡ take n (drop (triangle n) room) ++ take n (drop n (drop (triangle n) room))
+  two_unpacked l = let e : length room - triangle n ≡ n + n = omega arith in rw e (take-add n n (drop (triangle n) room))
 
-  pub unpack-laid : (y z w : List Float) → Sized n store → length room ≡ pack_need n → length y ≡ n * n
+  pub unpack_laid : (y z w : List Float) → Sized n store → length room ≡ pack_need n → length y ≡ n * n
       → y ≡ joined (triangle_from 0 n (take (triangle n) room)) (no_lower n) → z ≡ take (length room - triangle n) (drop (triangle n) room)
       → w ≡ zeros (length (take (n * n + 4 * n - (n * n + 2 * n)) (drop (n * n + 2 * n) (twice y z))))
       → take (n * n + 2 * n) (twice y z) ++ (w ++ drop (n * n + 4 * n - (n * n + 2 * n)) (drop (n * n + 2 * n) (twice y z)))
       ≡ lay (unpacked_room n room (drop (store_need n) store))
   unfolding lay unpacked_room
-  unpack-laid y z w s l ly ey ez ew =
+  unpack_laid y z w s l ly ey ez ew =
       let f = s.fits in
       let after = drop (triangle n) room in
       let p = n * n in
@@ -92,7 +92,7 @@ module _ (n : ℕ) (room store : List Float) where
       let e = n * n + 4 * n in
       let k : e - q ≡ 2 * n = omega arith in
       let rest = drop (store_need n) store in
-      let v : z ≡ take n after ++ take n (drop n after) = ez ∙ two-unpacked l in
+      let v : z ≡ take n after ++ take n (drop n after) = ez ∙ two_unpacked l in
       let lz : length z ≡ 2 * n = ap length ez ∙ (let x = part_long (triangle n) (length room - triangle n) room (omega arith) in omega arith) in
       let a : twice y z ≡ (y ++ z) ++ drop q store = two_laid p q y z store ly (omega arith) in
       let lyz : length (y ++ z) ≡ q = length-append y z ∙ omega arith in

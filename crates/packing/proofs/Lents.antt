@@ -70,12 +70,12 @@ module _ (n marks : ℕ) (order : List ℕ) (i : Inside 1 n) (p : mark_past n ma
   abbrev ordered : Bool
   ordered = is_order (free_count (marks_of n marks)) n order
 
-  form-last : first_of (form_tests n marks order) ≡ first_of ((not ordered, 4) ∷ [])
+  form_last : first_of (form_tests n marks order) ≡ first_of ((not ordered, 4) ∷ [])
   unfolding first_of
-  form-last = rw (within 1 n i, p, le-ltb (length order) n l)
+  form_last = rw (within 1 n i, p, le-ltb (length order) n l)
 
-  pub form-met : (first_of (form_tests n marks order) ≡ 0 → ⊥) → not ordered ≡ true
-  form-met h = met_last (not ordered) (λ e. h (form-last ∙ e))
+  pub form_met : (first_of (form_tests n marks order) ≡ 0 → ⊥) → not ordered ≡ true
+  form_met h = met_last (not ordered) (λ e. h (form_last ∙ e))
 
-  pub form-passed : first_of (form_tests n marks order) ≡ 0 → not ordered ≡ false
-  form-passed e = passed_last (not ordered) (sym form-last ∙ e)
+  pub form_passed : first_of (form_tests n marks order) ≡ 0 → not ordered ≡ false
+  form_passed e = passed_last (not ordered) (sym form_last ∙ e)

@@ -35,7 +35,7 @@ use Rattle.calls.proofs.Passed.{free_count-fits}
 use Rattle.packing.specs.Packing.{pack_need, packed_of, unpacked_room, PutAway, put_away, first_places, pack_tests, pack_call, unpack_tests, unpack_call}
 use Rattle.packing.proofs.Corners.{triangle, climb_is, flat_triangle, triangle_flat, triangle_stairs}
 use Rattle.packing.proofs.Called.{lent_sized, pack-lent, pack_is, unpack-lent, unpack_is}
-use Rattle.packing.proofs.Layings.{upper_stairs, upper_long, unpacked-front}
+use Rattle.packing.proofs.Layings.{upper_stairs, upper_long, unpacked_front}
 
 -- ---- of a room
 
@@ -53,9 +53,9 @@ fresh n r rest = record {
 
 module _ (n : ℕ) (r : Room) (z : Shaped n r) where
   -- LAW
-  pub packed-long : length (packed_of r) ≡ pack_need n
+  pub packed_long : length (packed_of r) ≡ pack_need n
   unfolding packed_of
-  packed-long =
+  packed_long =
       let u = upper_long n r z in
       let q = z.qtb_long in
       let o = z.norms_long in
@@ -63,9 +63,9 @@ module _ (n : ℕ) (r : Room) (z : Shaped n r) where
       length-append (flat r.upper) (r.qtb ++ r.norms) ∙ omega arith
 
   -- LAW: with anything after the packed numbers
-  pub unpacked-packed-more : (more rest : List Float) → unpacked_room n (packed_of r ++ more) rest ≡ fresh n r rest
+  pub unpacked_packed-more : (more rest : List Float) → unpacked_room n (packed_of r ++ more) rest ≡ fresh n r rest
   unfolding packed_of unpacked_room
-  unpacked-packed-more more rest =
+  unpacked_packed-more more rest =
       let f = flat r.upper in
       let q = r.qtb in
       let o = r.norms in
@@ -80,13 +80,13 @@ module _ (n : ℕ) (r : Room) (z : Shaped n r) where
       )
 
   -- LAW
-  pub unpacked-packed : (rest : List Float) → unpacked_room n (packed_of r) rest ≡ fresh n r rest
-  unpacked-packed rest =
-      sym (ap (λ (xs : List Float). unpacked_room n xs rest) (take_at (packed_of r) [] (pack_need n) packed-long))
-      ∙ (unpacked-front n (packed_of r ++ []) rest (pack_need n) (omega arith) ∙ unpacked-packed-more [] rest)
+  pub unpacked_packed : (rest : List Float) → unpacked_room n (packed_of r) rest ≡ fresh n r rest
+  unpacked_packed rest =
+      sym (ap (λ (xs : List Float). unpacked_room n xs rest) (take_at (packed_of r) [] (pack_need n) packed_long))
+      ∙ (unpacked_front n (packed_of r ++ []) rest (pack_need n) (omega arith) ∙ unpacked_packed-more [] rest)
 
-  fresh-tall : Tall n 0 r.upper r.below
-  fresh-tall =
+  fresh_tall : Tall n 0 r.upper r.below
+  fresh_tall =
       let w = z.upper_wide in
       record {
         fits = omega arith;
@@ -95,11 +95,11 @@ module _ (n : ℕ) (r : Room) (z : Shaped n r) where
         belows = λ k h. z.below_tall k (omega arith) ∙ omega arith;
       }
 
-  pub laid-long : length (lay r) ≡ store_need n + length r.rest
+  pub laid_long : length (lay r) ≡ store_need n + length r.rest
   unfolding lay
-  laid-long =
+  laid_long =
       let w = z.upper_wide in
-      let s : length (joined r.upper r.below) ≡ n * n = joined_long n 0 r.upper r.below fresh-tall ∙ rw w in
+      let s : length (joined r.upper r.below) ≡ n * n = joined_long n 0 r.upper r.below fresh_tall ∙ rw w in
       let a = z.qtb_long in
       let b = z.norms_long in
       let c = z.ldiag_long in
@@ -116,9 +116,9 @@ module _ (n : ℕ) (xs rest : List Float) where
       rw (flat_triangle 0 n xs, climb_is n, e) (sym (take-add (triangle n) (n + n) xs ∙ ap (λ (l : List Float). take (triangle n) xs ++ l) (take-add n n after)))
 
   -- LAW: for any n
-  pub unpacked-shaped : pack_need n ≤ length xs → Shaped n (unpacked_room n xs rest)
+  pub unpacked_shaped : pack_need n ≤ length xs → Shaped n (unpacked_room n xs rest)
   unfolding unpacked_room
-  unpacked-shaped h =
+  unpacked_shaped h =
       let c = climb_is n in
       let s = triangle_stairs 0 n xs (omega arith) in
       let d = length-drop (triangle n) xs in
@@ -145,16 +145,16 @@ module _ (n : ℕ) (from to : List ℕ) (l : n ≤ length from) where
   pub placed_first : take n (first_places n from to) ≡ take n from
   placed_first = take_at (take n from) (drop n to) n (length-take-le n from l)
 
-  placed-again : (more : List ℕ) → first_places n (first_places n from to) more ≡ first_places n from more
-  placed-again more = ap (λ (p : List ℕ). p ++ drop n more) placed_first
+  placed_again : (more : List ℕ) → first_places n (first_places n from to) more ≡ first_places n from more
+  placed_again more = ap (λ (p : List ℕ). p ++ drop n more) placed_first
 
   placed-ordered : (free : ℕ) → free ≤ n → is_order free n (first_places n from to) ≡ is_order free n from
   placed-ordered free h =
       let t : take free (first_places n from to) ≡ take free from = (let k = length-take-le n from l in take-append-le free (take n from) (drop n to) (omega arith) ∙ take-take free n from h) in
       rw (t, placed_first)
 
-  pub placed-long : n ≤ length (first_places n from to)
-  placed-long = let k = length-take-le n from l in let e = length-append (take n from) (drop n to) in omega arith
+  pub placed_long : n ≤ length (first_places n from to)
+  placed_long = let k = length-take-le n from l in let e = length-append (take n from) (drop n to) in omega arith
 
 -- a test of two lengths that are long enough
 both_long : (a b c d : ℕ) → b ≤ a → d ≤ c → (ltb a b || ltb c d) ≡ false
@@ -170,12 +170,12 @@ module _ (st : State) (room : List Float) (places : List ℕ) (store : List Floa
   abbrev back : Room
   back = unpacked_room st.n room (drop (store_need st.n) store)
 
-  pub unpack-passed : first_of (unpack_tests st room places (length store) (length order)) ≡ 0
+  pub unpack_passed : first_of (unpack_tests st room places (length store) (length order)) ≡ 0
   unfolding unpack_call
-  unpack-passed = eqb-true _ 0 (by_first (eqb (first_of (unpack_tests st room places (length store) (length order))) 0) _ _ _ refl h)
+  unpack_passed = eqb-true _ 0 (by_first (eqb (first_of (unpack_tests st room places (length store) (length order))) 0) _ _ _ refl h)
 
   pub unpack-left : unpacked ≡ put_away (answered tt) (marked_held st held.Nothing) (lay back) (first_places st.n places order)
-  unpack-left = sym (unpack_is st room places store order unpack-passed)
+  unpack-left = sym (unpack_is st room places store order unpack_passed)
 
   -- LAW: packing what was unpacked gives the same doubles and places, whatever is held
   pub pack-unpack-same : (k : Held) (room₂ : List Float) (places₂ : List ℕ) → is_empty k ≡ false → pack_need st.n ≤ length room₂ → st.n ≤ length places₂
@@ -183,13 +183,13 @@ module _ (st : State) (room : List Float) (places : List ℕ) (store : List Floa
       ≡ put_away (answered tt) (marked_held st k) (take (pack_need st.n) room ++ drop (pack_need st.n) room₂) (first_places st.n places places₂)
   pack-unpack-same k room₂ places₂ full wide many =
       let n = st.n in
-      let p = unpack-lent st room places store order unpack-passed in
+      let p = unpack-lent st room places store order unpack_passed in
       let l : n ≤ length places = (let a = p.each_long in omega arith) in
-      let s : Shaped n back = unpacked-shaped n room (drop (store_need n) store) p.room_long in
+      let s : Shaped n back = unpacked_shaped n room (drop (store_need n) store) p.room_long in
       let q = first_places n places order in
-      let x = (passed_iff (unpack_tests st room places (length store) (length order)) refl).0 unpack-passed in
-      let u = laid-long n back s in
-      let v = placed-long n places order l in
+      let x = (passed_iff (unpack_tests st room places (length store) (length order)) refl).0 unpack_passed in
+      let u = laid_long n back s in
+      let v = placed_long n places order l in
       let none : NoneHold (pack_tests (marked_held st k) (length (lay back)) q (length room₂) (length places₂)) = (
         full,
         (
@@ -213,7 +213,7 @@ module _ (st : State) (room : List Float) (places : List ℕ) (store : List Floa
       ap (λ (y : PutAway). pack_call (marked_held st k) y.numbers y.places room₂ places₂) unpack-left
       ∙ (sym (pack_is (marked_held st k) (lay back) q room₂ places₂ e)
       ∙ (ap (λ (y : List Float). put_away (answered tt) (marked_held st k) y (first_places n q places₂)) w
-      ∙ ap (λ (y : List ℕ). put_away (answered tt) (marked_held st k) (take (pack_need n) room ++ drop (pack_need n) room₂) y) (placed-again n places order l places₂)))
+      ∙ ap (λ (y : List ℕ). put_away (answered tt) (marked_held st k) (take (pack_need n) room ++ drop (pack_need n) room₂) y) (placed_again n places order l places₂)))
 
 module _ (st : State) (store : List Float) (order : List ℕ) (room : List Float) (places : List ℕ) (h : (pack_call st store order room places).reply ≡ answered tt) where
   abbrev packed : PutAway
@@ -222,12 +222,12 @@ module _ (st : State) (store : List Float) (order : List ℕ) (room : List Float
   abbrev kept : Room
   kept = load st.n store
 
-  pub pack-passed : first_of (pack_tests st (length store) order (length room) (length places)) ≡ 0
+  pub pack_passed : first_of (pack_tests st (length store) order (length room) (length places)) ≡ 0
   unfolding pack_call
-  pack-passed = eqb-true _ 0 (by_first (eqb (first_of (pack_tests st (length store) order (length room) (length places))) 0) _ _ _ refl h)
+  pack_passed = eqb-true _ 0 (by_first (eqb (first_of (pack_tests st (length store) order (length room) (length places))) 0) _ _ _ refl h)
 
   pub pack-left : packed ≡ put_away (answered tt) st (written (packed_of kept) room) (first_places st.n order places)
-  pack-left = sym (pack_is st store order room places pack-passed)
+  pack-left = sym (pack_is st store order room places pack_passed)
 
   -- LAW: of finite numbers, unpacking what was packed leaves the store as after factoring and nothing held, whatever is held and lent
   pub unpack-pack-same : (k : Held) (store₂ : List Float) (order₂ : List ℕ) → is_empty k ≡ false → all_finite (packed_of kept) ≡ true → store_need st.n ≤ length store₂ → st.n ≤ length order₂
@@ -235,16 +235,16 @@ module _ (st : State) (store : List Float) (order : List ℕ) (room : List Float
       ≡ put_away (answered tt) (marked_held st held.Nothing) (lay (fresh st.n kept (drop (store_need st.n) store₂))) (first_places st.n order order₂)
   unpack-pack-same k store₂ order₂ full finite long many =
       let n = st.n in
-      let p = pack-lent st store order room places pack-passed in
+      let p = pack-lent st store order room places pack_passed in
       let l : n ≤ length order = (let a = p.each_long in omega arith) in
       let s : Shaped n kept = load_shaped n store (lent_sized st store (min (length order) (length places)) (length room) p).1 in
       let q = first_places n order places in
       let xs = packed_of kept in
       let ys = written xs room in
       let rest = drop (store_need n) store₂ in
-      let m = packed-long n kept s in
-      let x = (passed_iff (pack_tests st (length store) order (length room) (length places)) refl).0 pack-passed in
-      let v = placed-long n order places l in
+      let m = packed_long n kept s in
+      let x = (passed_iff (pack_tests st (length store) order (length room) (length places)) refl).0 pack_passed in
+      let v = placed_long n order places l in
       let g : pack_need n ≤ length ys = (let e = length-append xs (drop (length xs) room) in omega arith) in
       let f : not (all_finite (take (pack_need n) ys)) ≡ false = ap (λ (b : List Float). not (all_finite b)) (take_at xs (drop (length xs) room) (pack_need n) m) ∙ ap not finite in
       let none : NoneHold (unpack_tests (marked_held st k) ys q (length store₂) (length order₂)) = (
@@ -266,5 +266,5 @@ module _ (st : State) (store : List Float) (order : List ℕ) (room : List Float
       let e = (passed_iff (unpack_tests (marked_held st k) ys q (length store₂) (length order₂)) refl).1 none in
       ap (λ (y : PutAway). unpack_call (marked_held st k) y.numbers y.places store₂ order₂) pack-left
       ∙ (sym (unpack_is (marked_held st k) ys q store₂ order₂ e)
-      ∙ (ap (λ (y : Room). put_away (answered tt) (marked_held st held.Nothing) (lay y) (first_places n q order₂)) (unpacked-packed-more n kept s (drop (length xs) room) rest)
-      ∙ ap (λ (y : List ℕ). put_away (answered tt) (marked_held st held.Nothing) (lay (fresh n kept rest)) y) (placed-again n order places l order₂)))
+      ∙ (ap (λ (y : Room). put_away (answered tt) (marked_held st held.Nothing) (lay y) (first_places n q order₂)) (unpacked_packed-more n kept s (drop (length xs) room) rest)
+      ∙ ap (λ (y : List ℕ). put_away (answered tt) (marked_held st held.Nothing) (lay (fresh n kept rest)) y) (placed_again n order places l order₂)))

@@ -1,4 +1,6 @@
 // Document 02, #107: a station with six sampling points keeps six problems and runs one at a time. Above `calls`, whose states it takes.
+#![tactic(auto)]
+
 mod check;
 mod corner;
 pub mod pack;

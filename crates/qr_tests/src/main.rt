@@ -6,6 +6,8 @@
 // right-hand side inside a damped solve. Matrices stand here column by column.
 //
 // Proved: every function is safe and ends. Assumed: the contract of the C function `write`. That the tests pass is shown by the run.
+#![tactic(auto)]
+
 mod damped;
 mod factored;
 mod held;

@@ -6,7 +6,7 @@ use factor::state::{FactorTold, State, Told};
 use leaves::reply::{Done, Ranged};
 
 // `out` is what the last call wrote, and `good` whether it was not refused.
-#[derive(Drop)]
+#[derive(Clone, Copy)]
 pub(crate) struct Side {
     pub(crate) state: State,
     pub(crate) store: [f64; 64],

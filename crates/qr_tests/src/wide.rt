@@ -21,7 +21,7 @@ const FULL_THIN: [f64; 16] = [
 const B: [f64; 4] = [7.0, -5.0, 0.0, 0.0];
 
 // Both problems, and whether all that was compared so far is alike.
-#[derive(Drop)]
+#[derive(Clone, Copy)]
 struct Pair {
     one: Side,
     two: Side,

@@ -1,2 +1,4 @@
 // Document 01, 'What must change shape': the reader that borrows its square.
+#![tactic(auto)]
+
 pub mod reader;

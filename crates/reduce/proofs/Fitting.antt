@@ -17,7 +17,7 @@ use Rattle.leaves.specs.Triangle.{columns}
 use Rattle.leaves.proofs.Folds.{axpy-length}
 use Rattle.leaves.specs.Loop.{between}
 use Rattle.reduce.specs.Reduction.{Reduction, reduction, swap, pivoted, axis_by, reflect, reflect_from, later, with_diag, with_rhs, signed, reflected, reduced, start, reduction_of}
-use Rattle.leaves.proofs.Loops.{upto-keeps, between-keeps}
+use Rattle.leaves.proofs.Loops.{upto_keeps, between_keeps}
 use Rattle.leaves.proofs.Squares.{columns-length}
 use Rattle.leaves.proofs.Grids.{column_long}
 use Rattle.reduce.proofs.Pivots.{imax_place}
@@ -104,7 +104,7 @@ module _ (m n : ℕ) where
       let c : List Float = drop j (get_or r.cols j []) in
       let axis : List Float = axis_by (signed s c) c in
       rhs_fits (reflect_from j axis r.rhs) (between (later j axis) (suc j) n (with_diag j (neg (signed s c)) r)) (reflect_long j axis r.rhs ∙ f.rhs_long)
-      (between-keeps (λ (i : ℕ) (t : Reduction). Fits m n t) (later j axis) (suc j) n (with_diag j (neg (signed s c)) r) h (diag_fits j (neg (signed s c)) r f)
+      (between_keeps (λ (i : ℕ) (t : Reduction). Fits m n t) (later j axis) (suc j) n (with_diag j (neg (signed s c)) r) h (diag_fits j (neg (signed s c)) r f)
       (λ i t a b p. later-fits j axis i t b p))
 
   pub reduced-fits : (j : ℕ) (r : Reduction) → j < n → Fits m n r → Fits m n (reduced n j r)
@@ -134,5 +134,5 @@ module _ (m n : ℕ) where
   pub reduction-fits : (jac res : List Float) → m * n ≤ length jac → length res ≡ m → Fits m n (reduction_of m n (columns m n jac) res)
   unfolding reduction_of
   reduction-fits jac res h g =
-      upto-keeps (λ (i : ℕ) (t : Reduction). Fits m n t) (reduced n) (min m n) (start (columns m n jac) res) (start_fits jac res h g)
+      upto_keeps (λ (i : ℕ) (t : Reduction). Fits m n t) (reduced n) (min m n) (start (columns m n jac) res) (start_fits jac res h g)
       (λ i t l p. reduced-fits i t (omega arith) p)

@@ -82,14 +82,14 @@ benched {m = m} {n = n} b i h = record { rows = i.rows_few; across = i.cols_few;
 
 -- ---- scratch for n numbers at the front of a longer room, lent once and lent again
 module _ (n : ℕ) (w room : List Float) (f : n ≤ length room) (e : length w ≡ length (take n room)) where
-  pub front-in : n ≤ length (w ++ drop n room)
-  front-in = let l = length_front room w n e in omega arith
+  pub front_in : n ≤ length (w ++ drop n room)
+  front_in = let l = length_front room w n e in omega arith
 
-  pub front-again : take n (w ++ drop n room) ≡ w
-  front-again = take_at w (drop n room) n (e ∙ length-take-le n room f)
+  pub front_again : take n (w ++ drop n room) ≡ w
+  front_again = take_at w (drop n room) n (e ∙ length-take-le n room f)
 
   pub front_long : length (take n (w ++ drop n room)) ≡ n
-  front_long = ap length front-again ∙ e ∙ length-take-le n room f
+  front_long = ap length front_again ∙ e ∙ length-take-le n room f
 
 -- ---- columns one after the other, and read back
 flat-columns : (m k : ℕ) (s : List Float) → flat (columns m k s) ≡ take (k * m) s
@@ -132,20 +132,20 @@ module _ (m n : ℕ) (jac res v₀ d₀ : List Float) (o₀ : List ℕ) (b₀ : 
   abbrev worked : Reduced
   worked = let f = reduction_of m n (columns m n jac) res in reduced_as (answered (ranges_of (measured m n (columns m n jac) res))) (map norm (columns m n jac)) f.diag f.order (flat f.cols ++ f.rhs)
 
-  pub call-refuses : (c : ℕ) → c ≡ tests → (c ≡ 0 → ⊥) → reduced_as (refused c) v₀ d₀ o₀ b₀ ≡ reduce_call m n jac res v₀ d₀ o₀ b₀
+  pub call_refuses : (c : ℕ) → c ≡ tests → (c ≡ 0 → ⊥) → reduced_as (refused c) v₀ d₀ o₀ b₀ ≡ reduce_call m n jac res v₀ d₀ o₀ b₀
   unfolding reduce_call
-  call-refuses c e h = call-refused worked (λ (k : ℕ). reduced_as (refused k) v₀ d₀ o₀ b₀) _ c (sym e) (ne_eqb c 0 h)
+  call_refuses c e h = call-refused worked (λ (k : ℕ). reduced_as (refused k) v₀ d₀ o₀ b₀) _ c (sym e) (ne_eqb c 0 h)
 
-  call-works : tests ≡ 0 → worked ≡ reduce_call m n jac res v₀ d₀ o₀ b₀
+  call_works : tests ≡ 0 → worked ≡ reduce_call m n jac res v₀ d₀ o₀ b₀
   unfolding reduce_call
-  call-works e = call-worked worked (λ (k : ℕ). reduced_as (refused k) v₀ d₀ o₀ b₀) _ e
+  call_works e = call-worked worked (λ (k : ℕ). reduced_as (refused k) v₀ d₀ o₀ b₀) _ e
 
   -- what the working leaves: begun on the bench, and reduced column by column
-  pub call-works-out : (v d₁ w₁ x₁ b₁ d w b : List Float) (o₁ o : List ℕ) (seen all : Ranges) → tests ≡ 0 → v ≡ map norm (columns m n jac)
+  pub call_works_out : (v d₁ w₁ x₁ b₁ d w b : List Float) (o₁ o : List ℕ) (seen all : Ranges) → tests ≡ 0 → v ≡ map norm (columns m n jac)
       → under_way m n b₁ d₁ w₁ o₁ ≡ start (columns m n jac) (take m res) → x₁ ≡ w₁ → under_way m n b d w o ≡ upto (reducedAt n) (min m n) (under_way m n b₁ d₁ x₁ o₁)
       → seen ≡ ranges_of (columns m n jac) → all ≡ either seen (ranges_of (along (measured_at n) (reducedAt n) (min m n) (under_way m n b₁ d₁ x₁ o₁))) → length b ≡ length b₀ → reduced_as (answered all) v d o b ≡ reduce_call m n jac res v₀ d₀ o₀ b₀
   unfolding reduction_of measured
-  call-works-out v d₁ w₁ x₁ b₁ d w b o₁ o seen all t hv h₁ ew h₂ hs ha lb =
+  call_works_out v d₁ w₁ x₁ b₁ d w b o₁ o seen all t hv h₁ ew h₂ hs ha lb =
       let l = lengths m n (length jac) (length res) (length v₀) (length d₀) (length o₀) (length b₀) t in
       let f : Reduction = reduction_of m n (columns m n jac) res in
       let same : take m res ≡ res = take_all m res (le_of_eq l.res_long) in
@@ -160,7 +160,7 @@ module _ (m n : ℕ) (jac res v₀ d₀ : List Float) (o₀ : List ℕ) (b₀ : 
       ∙ ap (λ (x : Reduction). either (ranges_of (columns m n jac)) (ranges_of (along (measured_at n) (reducedAt n) (min m n) x))) from
       ∙ sym (ranges_of-append (columns m n jac) (along (measured_at n) (reducedAt n) (min m n) (start (columns m n jac) res))) in
       let whole : reduced_as (answered all) v d o b ≡ worked = rw (told, hv, hd, ho, hb) in
-      whole ∙ call-works t
+      whole ∙ call_works t
 
 -- at the start r_diag has the norms of the columns as they stand
 pub start-norms : (m n : ℕ) (b d w : List Float) (o : List ℕ) (cs : List (List Float)) (r : List Float) → under_way m n b d w o ≡ start cs r → d ≡ map norm (take n (grid m n b))
@@ -172,7 +172,7 @@ pub reduces : (m n : ℕ) (jac res v₀ v d₀ d : List Float) (o₀ o : List �
     → length v₀ ≡ n → length d₀ ≡ n → length o₀ ≡ n → length b₀ ≡ m * n + m → reduced_as r v d o b ≡ reduce_call m n jac res v₀ d₀ o₀ b₀ → Reduces m n jac res r v d o b
 reduces m n jac res v₀ v d₀ d o₀ o b₀ b {r = r} hs hj hr hv hd ho hb e =
     let t = fitting m n (length jac) (length res) (length v₀) (length d₀) (length o₀) (length b₀) (record { sizes = hs; jac_long = hj; res_long = hr; norms_long = hv; diag_long = hd; order_long = ho; bench_long = hb }) in
-    let w : reduced_as r v d o b ≡ worked m n jac res v₀ d₀ o₀ b₀ = e ∙ sym (call-works m n jac res v₀ d₀ o₀ b₀ t) in
+    let w : reduced_as r v d o b ≡ worked m n jac res v₀ d₀ o₀ b₀ = e ∙ sym (call_works m n jac res v₀ d₀ o₀ b₀ t) in
     let f : Reduction = reduction_of m n (columns m n jac) res in
     let fits : Fits m n f = reduction-fits m n jac res (le_of_eq (sym hj)) hr in
     let tall : (k : ℕ) → k < length f.cols → length (get_or f.cols k []) ≡ m = λ k h. fits.cols_tall k (subst (λ (x : ℕ). k < x) fits.cols_wide h) in

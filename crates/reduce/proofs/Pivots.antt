@@ -21,7 +21,7 @@ use Rattle.leaves.proofs.Folds.{front, front_step, front_end}
 use Rattle.leaves.specs.Loop.{between, along_between}
 use Rattle.reduce.specs.Reduction.{Reduction, reduction, swap, pivoted, axis_by, reflect_from, later, signed, with_diag, with_rhs, reflected, reduced, measured_later, measured_reflected, measured_at}
 use Rattle.reduce.specs.inner.Bench.{swap_place, swept}
-use Rattle.leaves.proofs.Loops.{between-keeps}
+use Rattle.leaves.proofs.Loops.{between_keeps}
 use Rattle.leaves.proofs.Grids.{grid_read, grid_write}
 use Rattle.reduce.proofs.Begins.{norms_at}
 
@@ -69,12 +69,12 @@ front_here (z ∷ zs) (y ∷ ys) zero h k = refl
 front_here (z ∷ zs) (y ∷ ys) (suc i) h k = front_here zs ys i (le_of_suc-le-suc h) (le_of_suc-le-suc k)
 
 module _ (j k : ℕ) (g : List (List Float)) (hj : j < k) (hk : k < length g) where
-  pub fronts-none : g ≡ fronts j k 0 g
-  fronts-none = sym (rw (set-get_or g j [], set-get_or g k []))
+  pub fronts_none : g ≡ fronts j k 0 g
+  fronts_none = sym (rw (set-get_or g j [], set-get_or g k []))
 
-  pub fronts-turn : (i : ℕ) → i < length (get_or g j []) → i < length (get_or g k []) → swap_place j k i (fronts j k i g) ≡ fronts j k (suc i) g
+  pub fronts_turn : (i : ℕ) → i < length (get_or g j []) → i < length (get_or g k []) → swap_place j k i (fronts j k i g) ≡ fronts j k (suc i) g
   unfolding swap_place
-  fronts-turn i ha hb =
+  fronts_turn i ha hb =
       let a : List Float = get_or g j [] in
       let b : List Float = get_or g k [] in
       let x : List Float = front i b a in
@@ -96,9 +96,9 @@ module _ (j k : ℕ) (g : List (List Float)) (hj : j < k) (hk : k < length g) wh
         set-set (set g j (front (suc i) b a)) k y (front (suc i) a b),
       )
 
-  pub fronts-all : (m : ℕ) → length (get_or g j []) ≡ m → length (get_or g k []) ≡ m → fronts j k m g ≡ swap [] j k g
+  pub fronts_all : (m : ℕ) → length (get_or g j []) ≡ m → length (get_or g k []) ≡ m → fronts j k m g ≡ swap [] j k g
   unfolding swap
-  fronts-all m ha hb =
+  fronts_all m ha hb =
       let a : List Float = get_or g j [] in
       let b : List Float = get_or g k [] in
       rw (front_end b a (front m b a) m (hb ∙ sym ha) (omega arith) refl, front_end a b (front m a b) m (ha ∙ sym hb) (omega arith) refl)
@@ -115,11 +115,11 @@ module _ (n j k : ℕ) (g : List (List Float)) (hj : j < k) (hk : k < n) where
   swap-past =
       get_or-set_other (set g j (get_or g k [])) k n (get_or g j []) [] (λ (z : n ≡ k). omega arith) ∙ get_or-set_other g j n (get_or g k []) [] (λ (z : n ≡ j). omega arith)
 
-  pub pivot-moves : (g' : List (List Float)) (d w d' w' : List Float) (o o' : List ℕ) → k ≡ j + imax_of (drop j d) → g' ≡ swap [] j k g
+  pub pivot_moves : (g' : List (List Float)) (d w d' w' : List Float) (o o' : List ℕ) → k ≡ j + imax_of (drop j d) → g' ≡ swap [] j k g
       → d' ≡ set d k (get_or d j nan) → w' ≡ set w k (get_or w j nan) → o' ≡ swap 0 j k o
       → reduction (take n g') d' w' o' (get_or g' n []) ≡ pivoted j (reduction (take n g) d w o (get_or g n []))
   unfolding pivoted
-  pivot-moves g' d w d' w' o o' ek eg ed ew eo =
+  pivot_moves g' d w d' w' o o' ek eg ed ew eo =
       let ne : eqb (j + imax_of (drop j d)) j ≡ false = ne_eqb _ _ (λ (z : j + imax_of (drop j d) ≡ j). omega arith) in
       rw (eg, ed, ew, eo, swap-take, swap-past, ek, ne)
 
@@ -137,9 +137,9 @@ module _ (r : Reduction) (h : 0 < length r.cols) (e : r.diag ≡ map norm r.cols
   below : k < length r.cols
   below = let l = ap length e ∙ length-map r.cols norm in let p = imax_place r.diag (omega arith) in omega arith
 
-  first-column : get_or r.cols k [] ≡ get_or (pivoted 0 r).cols 0 []
+  first_column : get_or r.cols k [] ≡ get_or (pivoted 0 r).cols 0 []
   unfolding pivoted swap
-  first-column = by (eqb (0 + k) 0) refl
+  first_column = by (eqb (0 + k) 0) refl
     where
       here : 0 + k ≡ k
       here = omega arith
@@ -153,12 +153,12 @@ module _ (r : Reduction) (h : 0 < length r.cols) (e : r.diag ≡ map norm r.cols
           ∙ ap (λ (i : ℕ). get_or r.cols i []) here
           )
 
-  pub first-norm : get_or r.diag k nan ≡ norm (get_or (pivoted 0 r).cols 0 [])
-  first-norm = ap (λ (d : List Float). get_or d k nan) e ∙ norms_at r.cols k below ∙ ap norm first-column
+  pub first_norm : get_or r.diag k nan ≡ norm (get_or (pivoted 0 r).cols 0 [])
+  first_norm = ap (λ (d : List Float). get_or d k nan) e ∙ norms_at r.cols k below ∙ ap norm first_column
 
-  pub first-seen : {seen : Ranges} → seen ≡ ranges_of r.cols → seen ≡ either seen (ranges (get_or (pivoted 0 r).cols 0 []))
-  first-seen {seen} s =
-      s ∙ sym (ranges_of_has r.cols k below) ∙ ap (λ (c : List Float). either (ranges_of r.cols) (ranges c)) first-column
+  pub first_seen : {seen : Ranges} → seen ≡ ranges_of r.cols → seen ≡ either seen (ranges (get_or (pivoted 0 r).cols 0 []))
+  first_seen {seen} s =
+      s ∙ sym (ranges_of_has r.cols k below) ∙ ap (λ (c : List Float). either (ranges_of r.cols) (ranges c)) first_column
       ∙ ap (λ (x : Ranges). either x (ranges (get_or (pivoted 0 r).cols 0 []))) (sym s)
 
 -- ---- a column reduced
@@ -168,7 +168,7 @@ last_column n g g' y d w o l e = rw (e, take-set-le n g n y (le_refl n), get_or-
 
 later_rhs : (n j : ℕ) (axis : List Float) (r : Reduction) → j < n → (between (later j axis) (suc j) n r).rhs ≡ r.rhs
 unfolding later
-later_rhs n j axis r h = between-keeps (λ (i : ℕ) (t : Reduction). t.rhs ≡ r.rhs) (later j axis) (suc j) n r h refl (λ i t a b p. p)
+later_rhs n j axis r h = between_keeps (λ (i : ℕ) (t : Reduction). t.rhs ≡ r.rhs) (later j axis) (suc j) n r h refl (λ i t a b p. p)
 
 -- the residuals last, after the later columns
 pub swept_by : (n j : ℕ) (t : Float) (axis : List Float) (r u : Reduction) → j < n → u ≡ between (later j axis) (suc j) n (with_diag j (neg t) r)

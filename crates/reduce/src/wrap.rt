@@ -8,7 +8,7 @@ use leaves::norm::Ranges;
 use leaves::reply::{Place, Value};
 
 // A norm, and the ranges that took part.
-#[derive(Drop)]
+#[derive(Clone, Copy)]
 pub(crate) struct NormSeen {
     pub(crate) norm: f64,
     pub(crate) seen: Ranges,

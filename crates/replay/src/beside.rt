@@ -47,7 +47,7 @@ fn refusal(a: Done) -> u8 {
 }
 
 // What the reader answered, and the copy of the output after it. It only reads the store.
-#[derive(Drop)]
+#[derive(Clone, Copy)]
 struct Beside {
     answer: Done,
     out: [f64; 32],

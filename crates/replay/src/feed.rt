@@ -4,7 +4,7 @@ use crate::{print, room, stage};
 use lines::part::within;
 
 // The place in the chunk; how many bytes of the line have come; whether there is more to read.
-#[derive(Drop)]
+#[derive(Clone, Copy)]
 struct Spot {
     next: usize,
     fill: usize,

@@ -6,6 +6,8 @@
 // `.` ends a case, and every other letter is a call. After a call stand its answer, the state, the store, the order list, the bench and the
 // output; a packing and an unpacking have the packed room after the answer. A held call is played through the reader as well, with a copy of the output; where that leaves anything else, `reader differs` stands
 // after the answer. An item that does not fit this program's rooms prints `too large`, one that cannot be read `does not parse`.
+#![tactic(auto)]
+
 mod away;
 mod beside;
 mod call;

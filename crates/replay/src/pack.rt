@@ -86,7 +86,7 @@ fn spoil(s: &[u8], op: u8, p: Scene, text: &mut [u8]) -> Scene {
 }
 
 // What a packing or an unpacking left, and what it answered.
-#[derive(Drop)]
+#[derive(Clone, Copy)]
 struct Left {
     scene: Scene,
     packed: Packed,

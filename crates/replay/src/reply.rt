@@ -11,7 +11,7 @@ use measures::scaling::Scaling;
 use search::trust_region::Found;
 
 // The values of a call, or its refusal. The last three are for an item that is no call, or that is not played.
-#[derive(Drop)]
+#[derive(Clone, Copy)]
 pub(crate) enum Reply {
     Plain,
     Seen(Ranges),
@@ -27,7 +27,7 @@ pub(crate) enum Reply {
 }
 
 // What stands between the answer and the rooms: that the reader left anything else, or the lent scaling.
-#[derive(Drop)]
+#[derive(Clone, Copy)]
 pub(crate) enum Extra {
     Nothing,
     Differs,
@@ -35,7 +35,7 @@ pub(crate) enum Extra {
 }
 
 // The state after an item, and whether it was a call, after which the rooms are printed. The lent scaling is the first len numbers.
-#[derive(Drop)]
+#[derive(Clone, Copy)]
 pub(crate) struct After {
     pub(crate) state: State,
     pub(crate) reply: Reply,

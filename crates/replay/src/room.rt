@@ -5,7 +5,7 @@ use calls::state::State;
 use factor::state::Held;
 
 // How long each lent room is.
-#[derive(Drop)]
+#[derive(Clone, Copy)]
 pub(crate) struct Lent {
     pub(crate) store: usize,
     pub(crate) order: usize,
@@ -14,7 +14,7 @@ pub(crate) struct Lent {
 }
 
 // A lent problem while the calls have another: document 02, #107. Of the store the first len are lent, of the order list the first count.
-#[derive(Drop)]
+#[derive(Clone, Copy)]
 pub(crate) struct Aside {
     pub(crate) store: [f64; 384],
     pub(crate) order: [usize; 32],
@@ -24,7 +24,7 @@ pub(crate) struct Aside {
 }
 
 // A packed room, of which the first len and the first count are lent.
-#[derive(Drop)]
+#[derive(Clone, Copy)]
 pub(crate) struct Packed {
     pub(crate) room: [f64; 192],
     pub(crate) places: [usize; 32],
@@ -32,7 +32,7 @@ pub(crate) struct Packed {
     pub(crate) count: usize,
 }
 
-#[derive(Drop)]
+#[derive(Clone, Copy)]
 pub(crate) struct Away {
     pub(crate) one: Aside,
     pub(crate) two: Aside,
@@ -43,7 +43,7 @@ pub(crate) struct Away {
 
 // The rooms, whose first parts are lent; the state; and the place after the text that is not written out yet. It goes from function to
 // function by value: a call that is lent many slices at once takes the proof check long.
-#[derive(Drop)]
+#[derive(Clone, Copy)]
 pub(crate) struct Scene {
     pub(crate) store: [f64; 384],
     pub(crate) order: [usize; 32],

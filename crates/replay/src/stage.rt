@@ -54,7 +54,7 @@ fn lend(s: &[u8], p: Scene, text: &mut [u8]) -> Scene {
 }
 
 // What an item left in the rooms, and what it answered.
-#[derive(Drop)]
+#[derive(Clone, Copy)]
 struct Left {
     scene: Scene,
     after: After,

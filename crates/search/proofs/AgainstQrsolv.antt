@@ -22,10 +22,10 @@ use Rattle.eliminate.proofs.Triangular.{heads-length}
 use Rattle.search.specs.Qrsolv.{unset, whole, Copied, Cut, Solved, do20, do100, do110, do140, do160, qrsolv}
 use Rattle.search.proofs.Shapes.{Even, tri_length, rows_even, damped-length, damping-fits}
 use Rattle.search.proofs.QrsolvPlaces.{laid, Rising, rising_of}
-use Rattle.search.proofs.QrsolvCopy.{above_rising, above-length, diagonal_on, copied, do20-is}
+use Rattle.search.proofs.QrsolvCopy.{above_rising, above-length, diagonal_on, copied, do20_is}
 use Rattle.search.proofs.QrsolvTurns.{work}
-use Rattle.search.proofs.QrsolvElimination.{Made, do100-is}
-use Rattle.search.proofs.QrsolvSolution.{cut, do110-is, do140-is, placed_is}
+use Rattle.search.proofs.QrsolvElimination.{Made, do100_is}
+use Rattle.search.proofs.QrsolvSolution.{cut, do110_is, do140_is, placed_is}
 
 module _ (r : List (List Float)) (ipvt : List ℕ) (diag qtb : List Float) (pivots : length ipvt ≡ length r) (long : length qtb ≡ length r)
     (tall : (k : ℕ) → k < length r → length (get_or r k []) ≡ suc k) (order : is_permutation (length r) ipvt ≡ true) where
@@ -47,20 +47,20 @@ module _ (r : List (List Float)) (ipvt : List ℕ) (diag qtb : List Float) (pivo
   rising : Rising 1 r
   rising = rising_of 1 r (λ k h. tall k h ∙ omega arith)
 
-  heads-long : length (heads rows.0) ≡ n
-  heads-long = heads-length rows.0 ∙ tri_length n rows.0 fit.0
+  heads_long : length (heads rows.0) ≡ n
+  heads_long = heads-length rows.0 ∙ tri_length n rows.0 fit.0
 
   -- to 20
   copy_is : do20 n qtb n 0 (copied (whole n r) (unset n) (unset n)) ≡ copied (laid (aboves_from 0 r) (rows_from 0 r)) (diagonal r) qtb
   copy_is =
       let u : length (unset n) ≡ n = length-replicate n nan in
-      do20-is n qtb n 0 [] r [] (unset n) [] (unset n) [] qtb refl refl refl refl refl rising refl u u long (omega arith)
+      do20_is n qtb n 0 [] r [] (unset n) [] (unset n) [] qtb refl refl refl refl refl rising refl u u long (omega arith)
 
   -- to 100
   made : Made s (heads rows.0) rows.1 (do100 n ipvt diag (diagonal r) n 0 (work (laid (aboves_from 0 r) (rows_from 0 r)) (unset n) qtb plus_zero))
   unfolding damping
   made =
-      let m = do100-is n ipvt diag (diagonal r) n 0 (aboves_from 0 r) [] ipvt [] (diagonal r) refl refl pivots refl refl (diagonal-length 0 r) (above_rising 0 r rising) (above-length 0 r) (omega arith)
+      let m = do100_is n ipvt diag (diagonal r) n 0 (aboves_from 0 r) [] ipvt [] (diagonal r) refl refl pivots refl refl (diagonal-length 0 r) (above_rising 0 r rising) (above-length 0 r) (omega arith)
       [] (rows_from 0 r) [] (unset n) [] qtb plus_zero refl refl refl (rows_even 0 r) (length-replicate n nan) long in
       record { r_is = m.r_is ∙ ap (λ (us : List (List Float)). laid us (tails rows.0)) (diagonal_on 0 r rising); sdiag_is = m.sdiag_is; wa_is = m.wa_is }
 
@@ -71,15 +71,15 @@ module _ (r : List (List Float)) (ipvt : List ℕ) (diag qtb : List Float) (pivo
   abbrev solved : List Float
   solved = backward (take k (heads rows.0)) (take k (tails rows.0)) (take k rows.1)
 
-  k-most : k ≤ n
-  k-most = omega (arith, rank_most (heads rows.0), heads-long)
+  k_most : k ≤ n
+  k_most = omega (arith, rank_most (heads rows.0), heads_long)
 
-  solved-is : solved ++ zeros (length rows.1 - k) ≡ xs
+  solved_is : solved ++ zeros (length rows.1 - k) ≡ xs
   unfolding damped_solved tails
-  solved-is =
-      let h = k-most in
+  solved_is =
+      let h = k_most in
       let wide : length (tails rows.0) ≡ n = length-map rows.0 _ ∙ tri_length n rows.0 fit.0 in
-      let a = length-take-le k (heads rows.0) (omega (arith, heads-long)) in
+      let a = length-take-le k (heads rows.0) (omega (arith, heads_long)) in
       let b = length-take-le k (tails rows.0) (omega arith) in
       let c = length-take-le k rows.1 (omega (arith, fit.1)) in
       let l : length solved ≡ k = back_length (take k (heads rows.0)) (take k (tails rows.0)) (take k rows.1) (a ∙ sym c) (b ∙ sym c) ∙ c in
@@ -88,16 +88,16 @@ module _ (r : List (List Float)) (ipvt : List ℕ) (diag qtb : List Float) (pivo
   abbrev found : Cut
   found = cut (0 + k) (take k rows.1 ++ zeros (length rows.1 - k))
 
-  cut-is : do110 n (heads rows.0) n 0 (cut n rows.1) ≡ found
-  cut-is = ap (λ (i : ℕ). do110 n (heads rows.0) i 0 (cut n rows.1)) (sym heads-long)
-      ∙ do110-is n (heads rows.0) [] (heads rows.0) [] rows.1 0 refl refl refl (heads-long ∙ sym fit.1) (omega (arith, heads-long))
+  cut_is : do110 n (heads rows.0) n 0 (cut n rows.1) ≡ found
+  cut_is = ap (λ (i : ℕ). do110 n (heads rows.0) i 0 (cut n rows.1)) (sym heads_long)
+      ∙ do110_is n (heads rows.0) [] (heads rows.0) [] rows.1 0 refl refl refl (heads_long ∙ sym fit.1) (omega (arith, heads_long))
 
-  system-is : do140 (0 + k) s (heads rows.0) (0 + k) (take k rows.1 ++ zeros (length rows.1 - k)) ≡ xs
+  system_is : do140 (0 + k) s (heads rows.0) (0 + k) (take k rows.1 ++ zeros (length rows.1 - k)) ≡ xs
   unfolding do140
-  system-is =
-      do140-is (0 + k) s (heads rows.0) k n 0 [] r rows.0 [] (heads rows.0) [] (take k rows.1) (zeros (length rows.1 - k)) refl refl refl refl refl rising refl fit.0 heads-long
-      (length-take-le k rows.1 (omega (arith, fit.1, k-most))) k-most refl
-      ∙ solved-is
+  system_is =
+      do140_is (0 + k) s (heads rows.0) k n 0 [] r rows.0 [] (heads rows.0) [] (take k rows.1) (zeros (length rows.1 - k)) refl refl refl refl refl rising refl fit.0 heads_long
+      (length-take-le k rows.1 (omega (arith, fit.1, k_most))) k_most refl
+      ∙ solved_is
 
   -- 160: x held r's diagonal
   step_is : do160 ipvt xs n 0 (diagonal r) ≡ scatter ipvt xs (zeros (length xs))
@@ -113,13 +113,13 @@ module _ (r : List (List Float)) (ipvt : List ℕ) (diag qtb : List Float) (pivo
   from20 c = let w = do100 n ipvt diag c.x n 0 (work c.r (unset n) c.wa plus_zero) in from100 c.x w.r w.sdiag w.wa
 
   -- LAW
-  pub qrsolv-is : qrsolv n r ipvt diag qtb ≡ record { x = scatter ipvt xs (zeros (length xs)); sdiag = heads rows.0; r = laid r (tails rows.0) }
+  pub qrsolv_is : qrsolv n r ipvt diag qtb ≡ record { x = scatter ipvt xs (zeros (length xs)); sdiag = heads rows.0; r = laid r (tails rows.0) }
   unfolding qrsolv
-  qrsolv-is =
+  qrsolv_is =
       let w = do100 n ipvt diag (diagonal r) n 0 (work (laid (aboves_from 0 r) (rows_from 0 r)) (unset n) qtb plus_zero) in
       ap from20 copy_is
       ∙ ap₂ (λ (a : List (List Float)) (b : List Float). from100 (diagonal r) a b w.wa) made.r_is made.sdiag_is
       ∙ ap (from100 (diagonal r) s (heads rows.0)) made.wa_is
-      ∙ ap (from110 (diagonal r) s (heads rows.0)) cut-is
-      ∙ ap (λ (x : List Float). record { x = do160 ipvt x n 0 (diagonal r); sdiag = heads rows.0; r = s }) system-is
+      ∙ ap (from110 (diagonal r) s (heads rows.0)) cut_is
+      ∙ ap (λ (x : List Float). record { x = do160 ipvt x n 0 (diagonal r); sdiag = heads rows.0; r = s }) system_is
       ∙ ap (λ (x : List Float). record { x = x; sdiag = heads rows.0; r = s }) step_is

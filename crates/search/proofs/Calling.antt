@@ -18,7 +18,7 @@ use Rattle.factor.specs.Room.{Room, load, lay, emptied}
 use Rattle.leaves.specs.Square.{zeros}
 use Rattle.factor.specs.Solve.{scatter}
 use Rattle.leaves.specs.Tests.{first_of, none_zero}
-use Rattle.factor.specs.Tests.{finite_test, finite_number, not_above, below, solve_tests}
+use Rattle.factor.specs.Tests.{finite_test, finite_not_nan, not_above, below, solve_tests}
 use Rattle.factor.specs.Outcome.{Ended, ended, written}
 use Rattle.factor.specs.declared.state.State.{State}
 use Rattle.factor.specs.declared.state.Held.TheVariants as held
@@ -55,13 +55,13 @@ module _ (st : State) (store : List Float) (order : List ℕ) (e : Ready st stor
   abbrev asked : Problem
   asked = problem_of st order diag radius r
 
-  pub placed-long : length (placed asked w) ≡ st.n
+  pub placed_long : length (placed asked w) ≡ st.n
   unfolding placed
-  placed-long = placed-length (take st.n order) w ∙ l
+  placed_long = placed-length (take st.n order) w ∙ l
 
-  pub step-placed : (out : List Float) {out' : List Float} → length out ≡ st.n → out' ≡ scatter (take (length w) order) w out → out' ≡ placed asked w
+  pub step_placed : (out : List Float) {out' : List Float} → length out ≡ st.n → out' ≡ scatter (take (length w) order) w out → out' ≡ placed asked w
   unfolding placed
-  step-placed out o h =
+  step_placed out o h =
       let p = solve_passed st (length store) order st.n e in
       h ∙ ap (λ (k : ℕ). scatter (take k order) w out) l
       ∙ scatter_fresh st.n order w out (zeros (length w)) p.permuted p.order_long l o (length-replicate (length w) plus_zero ∙ l)
@@ -92,9 +92,9 @@ lent_back st n s out seen (refused k) {a} {s'} {o'} l h =
 
 -- ---- the tests
 module _ (st : State) (store : List Float) (order : List ℕ) (diag : List Float) (radius lambda : Float) (out : List Float) {c : ℕ} (e : c ≡ first_of (search_tests st (length store) order diag radius lambda (length out))) where
-  pub call-is-refused : (c ≡ 0 → ⊥) → ended (refused c) st store out ≡ search_call st order diag radius lambda store out
+  pub call_is_refused : (c ≡ 0 → ⊥) → ended (refused c) st store out ≡ search_call st order diag radius lambda store out
   unfolding search_call
-  call-is-refused h = call-refused _ (λ k. ended (refused k) st store out) _ c (sym e) (ne_eqb c 0 h)
+  call_is_refused h = call-refused _ (λ k. ended (refused k) st store out) _ c (sym e) (ne_eqb c 0 h)
 
   module _ (z : c ≡ 0) where
     abbrev short : ℕ
@@ -103,7 +103,7 @@ module _ (st : State) (store : List Float) (order : List ℕ) (diag : List Float
     first_passed : first_of (solve_tests st (length store) order short) ≡ 0
     first_passed =
         earlier_passed (solve_tests st (length store) order short)
-        (finite_test st diag ∷ finite_number radius ∷ finite_number lambda ∷ (not_above radius, 7) ∷ (below lambda, 7) ∷ (not (none_zero (take st.n diag)), 7) ∷ [])
+        (finite_test st diag ∷ finite_not_nan radius ∷ finite_not_nan lambda ∷ (not_above radius, 7) ∷ (below lambda, 7) ∷ (not (none_zero (take st.n diag)), 7) ∷ [])
         refl refl (sym e ∙ z)
 
     pub few : st.n ≤ 16
@@ -123,12 +123,12 @@ module _ (st : State) (store : List Float) (order : List ℕ) (diag : List Float
         let k : ltb (min (length order) st.n) st.n ≡ false = le-ltb (min (length order) st.n) st.n (omega (arith, o.order_long)) in
         (passed_iff (solve_tests st (length store) order st.n) refl).1 (h.0, (h.1.0, (rw (l, k), (h.1.1.1.0, tt))))
 
-    abbrev searchedOf : Problem → Ended Flagged
-    searchedOf p = searched st (lay (emptied (load st.n store))) out (ranges_of (measured_by p lambda)) (answer_of p lambda)
+    abbrev searched_of : Problem → Ended Flagged
+    searched_of p = searched st (lay (emptied (load st.n store))) out (ranges_of (measured_by p lambda)) (answer_of p lambda)
 
-    pub call-is-run : {x : Ended Flagged} → x ≡ searchedOf (problem_of st order (take st.n diag) radius (load st.n store)) → x ≡ search_call st order diag radius lambda store out
+    pub call_is_run : {x : Ended Flagged} → x ≡ searched_of (problem_of st order (take st.n diag) radius (load st.n store)) → x ≡ search_call st order diag radius lambda store out
     unfolding search_call
-    call-is-run h =
+    call_is_run h =
         let t : problem_of st order (take st.n diag) radius (load st.n store) ≡ problem_of st order diag radius (load st.n store) =
         rw (take_all st.n (take st.n diag) (omega (arith, length-take-le st.n diag diag_long))) in
-        h ∙ ap searchedOf t ∙ call-worked _ (λ k. ended (refused k) st store out) _ (sym e ∙ z)
+        h ∙ ap searched_of t ∙ call-worked _ (λ k. ended (refused k) st store out) _ (sym e ∙ z)

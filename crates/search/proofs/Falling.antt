@@ -18,7 +18,7 @@ use Rattle.search.specs.Ending.{ending}
 use Rattle.search.proofs.Signs.{Clear, not_below, above_sign, times_signed}
 use Rattle.search.proofs.Sound.{tenth_is}
 use Rattle.search.proofs.LmparSigns.{round_sign}
-use Rattle.search.proofs.Runs.{fpOf, turn-cases, run-cases, each_counted, stop-same, no_stop, first}
+use Rattle.search.proofs.Runs.{fp_of, turn_cases, run_cases, each_counted, stop-same, no_stop, first}
 use Rattle.search.specs.inner.Counting.{trial_count}
 
 -- ---- the overshoot: of a norm that is not below zero, less a radius
@@ -69,9 +69,9 @@ not_falling x h e = absurd (true≢false (sym (ap falls (stop-same x falling e))
 later : (p : Problem) (k : ℕ) (s : Next) → is_negative s.fp ≡ false → ending (trials_from p (suc k) s) ≡ inl falling → 2 ≤ trial_count (trials_from p (suc k) s)
 unfolding ending trial_count is_falling
 later p k s n =
-    turn-cases p s k (λ (r : Run). ending r ≡ inl falling → 2 ≤ trial_count r) (λ a e. no_stop trial_lambda falling e) (λ a b e. no_stop trial_norm falling e)
+    turn_cases p s k (λ (r : Run). ending r ≡ inl falling → 2 ≤ trial_count r) (λ a e. no_stop trial_lambda falling e) (λ a b e. no_stop trial_norm falling e)
     (λ a b c e. not_falling within refl e)
-    (λ a b c e. absurd (true≢false (sym ((and-eq-true_iff (eq s.lower plus_zero && le (fpOf p s) s.fp) (is_negative s.fp)).0 c).1 ∙ n)))
+    (λ a b c e. absurd (true≢false (sym ((and-eq-true_iff (eq s.lower plus_zero && le (fp_of p s) s.fp) (is_negative s.fp)).0 c).1 ∙ n)))
     (λ a b e. no_stop correction falling e)
     (λ a b e. let c = (each_counted p k _ falling e).0 in omega arith)
 
@@ -79,6 +79,6 @@ later p k s n =
 pub falling_not_first : (p : Problem) (initial : Float) → ending (run_of p initial) ≡ inl falling → 2 ≤ trial_count (run_of p initial)
 unfolding ending
 falling_not_first p initial =
-    run-cases p initial (λ (r : Run). ending r ≡ inl falling → 2 ≤ trial_count r) (λ f e. no_stop undamped_norm falling e) (λ f w e. not_falling undamped refl e)
+    run_cases p initial (λ (r : Run). ending r ≡ inl falling → 2 ≤ trial_count r) (λ f e. no_stop undamped_norm falling e) (λ f w e. not_falling undamped refl e)
     (λ e. no_stop lower_bound falling e) (λ e. no_stop gradient_norm falling e)
     (λ f w l e. later p 8 (first p initial) (overshoot_sign (scaled_norm p (undamped_step p)) p.radius f (not_below _ (norm_not_negative _)) w) e)

@@ -64,13 +64,13 @@ module _ (xs : List Float) (order : List ℕ) (ds : List Float) (h : length xs �
   pub gathered_length : length gathered ≡ length xs
   gathered_length = gather-length (take (length xs) order) ds ∙ length-take-le (length xs) order h
 
-  pub quotient-length : length (quotients xs gathered) ≡ length xs
-  quotient-length = quotients-length xs gathered (sym gathered_length)
+  pub quotient_length : length (quotients xs gathered) ≡ length xs
+  quotient_length = quotients-length xs gathered (sym gathered_length)
 
-  pub quotient-turn : (w : List Float) (i : ℕ) → i < length xs → w ≡ front i (quotients xs gathered) xs
+  pub quotient_turn : (w : List Float) (i : ℕ) → i < length xs → w ≡ front i (quotients xs gathered) xs
       → div binary64 (get_or w i nan) (get_or ds (get_or order i 0) nan) ≡ get_or (quotients xs gathered) i nan
-  quotient-turn w i k e =
-      let l = quotient-length in
+  quotient_turn w i k e =
+      let l = quotient_length in
       let z = gathered_length in
       ap (λ (x : Float). div binary64 x (get_or ds (get_or order i 0) nan)) (front_old (quotients xs gathered) xs w i (omega arith) k e)
       ∙ ap (div binary64 (get_or xs i nan)) (gathered_at (length xs) order ds i k h)

@@ -34,10 +34,10 @@ use Rattle.search.specs.declared.LMParameter.{LMParameter}
 use Rattle.search.proofs.Shapes.{placed-length, zero-length, damped-length, damping-fits}
 use Rattle.search.proofs.Workings.{shaped, order_long, permuted}
 use Rattle.search.proofs.Calling.{ready}
-use Rattle.search.proofs.AgainstQrsolv.{qrsolv-is}
+use Rattle.search.proofs.AgainstQrsolv.{qrsolv_is}
 use Rattle.search.proofs.LmparVectors.{Enough}
 use Rattle.search.proofs.LmparTrials.{Formed, AsNorm, given_of}
-use Rattle.search.proofs.LmparStart.{firstBy, tested-is, answer-is-lmpar}
+use Rattle.search.proofs.LmparStart.{first_by, tested_is, answer_is_lmpar}
 use Rattle.search.proofs.LmparStart as start
 use Rattle.factor.specs.inner.Rooms.{Shaped}
 
@@ -49,41 +49,41 @@ module _ (enorm : List Float → Float) (p : Problem) (w : Formed p) where
   abbrev a : Given
   a = given_of p
 
-  qrsolv-long : (wa1 : List Float) → length (qrsolv n p.upper p.order wa1 p.qtb).x ≡ n
-  qrsolv-long wa1 =
+  qrsolv_long : (wa1 : List Float) → length (qrsolv n p.upper p.order wa1 p.qtb).x ≡ n
+  qrsolv_long wa1 =
       let rows = damping (gather p.order wa1) p.upper p.qtb in
-      ap (λ (x : Solved). length x.x) (qrsolv-is p.upper p.order wa1 p.qtb w.pivots w.rhs w.tall w.permuted)
+      ap (λ (x : Solved). length x.x) (qrsolv_is p.upper p.order wa1 p.qtb w.pivots w.rhs w.tall w.permuted)
       ∙ placed-length p.order (damped_solved (heads rows.0) (tails rows.0) rows.1)
       ∙ damped-length (heads rows.0) (tails rows.0) rows.1
       ∙ (damping-fits (gather p.order wa1) p.upper p.qtb (gather-length p.order wa1 ∙ w.pivots) w.rhs).1
 
-  evaluated-long : (b : Before) → length (evaluated enorm dwarf a b).solved.x ≡ n
+  evaluated_long : (b : Before) → length (evaluated enorm dwarf a b).solved.x ≡ n
   unfolding evaluated
-  evaluated-long b = qrsolv-long _
+  evaluated_long b = qrsolv_long _
 
-  iterations-long : (k : ℕ) (b : Before) → length (iterations enorm dwarf a k b).x ≡ n
+  iterations_long : (k : ℕ) (b : Before) → length (iterations enorm dwarf a k b).x ≡ n
   unfolding iterations
-  iterations-long zero b = evaluated-long b
-  iterations-long (suc k) b = let t = evaluated enorm dwarf a b in by (accepted a b t) t (evaluated-long b) (iterations-long k (improved enorm a b t))
+  iterations_long zero b = evaluated_long b
+  iterations_long (suc k) b = let t = evaluated enorm dwarf a b in by (accepted a b t) t (evaluated_long b) (iterations_long k (improved enorm a b t))
     where
       by : (z : Bool) (t : Tried) → length t.solved.x ≡ n → length (iterations enorm dwarf a k (improved enorm a b t)).x ≡ n
           → length (elim z as (λ _. Output) [ true ↦ record { x = t.solved.x; par = t.par; qrsolvs = suc b.iter } | false ↦ iterations enorm dwarf a k (improved enorm a b t) ]).x ≡ n
       by true t h r = h
       by false t h r = r
 
-  undamped-long : length (undamped_step p) ≡ n
+  undamped_long : length (undamped_step p) ≡ n
   unfolding undamped_step placed
-  undamped-long = placed-length p.order (zero_solved p.m p.upper p.qtb) ∙ zero-length p.m p.upper p.qtb (sym w.rhs) ∙ w.rhs
+  undamped_long = placed-length p.order (zero_solved p.m p.upper p.qtb) ∙ zero-length p.m p.upper p.qtb (sym w.rhs) ∙ w.rhs
 
   x_long : (initial : Float) → Enough p.m (diagonal p.upper) → length (lmpar enorm dwarf a initial).x ≡ n
   x_long initial wide =
       let v = scaled_step p (undamped_step p) in
-      ap (λ (x : Output). length x.x) (tested-is enorm p initial wide w)
-      ∙ by (firstBy enorm p initial v (enorm v)) (le (sub binary64 (enorm v) p.radius) (band p.radius))
+      ap (λ (x : Output). length x.x) (tested_is enorm p initial wide w)
+      ∙ by (first_by enorm p initial v (enorm v)) (le (sub binary64 (enorm v) p.radius) (band p.radius))
     where
       by : (b : Before) (z : Bool) → length (start.ended enorm p initial (undamped_step p) b z).x ≡ n
-      by b true = undamped-long
-      by b false = iterations-long 9 b
+      by b true = undamped_long
+      by b false = iterations_long 9 b
 
 -- ---- an answer comes from the working alone, and writes its step
 module _ (st : State) (s store out : List Float) (seen : Ranges) (c : ℕ) where
@@ -145,11 +145,11 @@ module _ (st : State) (order : List ℕ) (diag : List Float) (radius lambda : Fl
     given_is : given ≡ given_of asked
     given_is = rw fits.upper_wide
 
-    pub answers-as-lmpar : (enorm : List Float → Float) → AsNorm enorm → Enough st.m (diagonal room.upper)
+    pub answers_as_lmpar : (enorm : List Float → Float) → AsNorm enorm → Enough st.m (diagonal room.upper)
         → lmpar enorm dwarf given lambda ≡ record { x = take st.n call.out; par = a.0.lambda; qrsolvs = a.0.trials }
-    answers-as-lmpar enorm same wide =
+    answers_as_lmpar enorm same wide =
         let step = worked.1.0 in
-        let is = answer-is-lmpar enorm asked lambda wide formed same a.0 step numbers.0 numbers.1 worked.1.1.0 in
+        let is = answer_is_lmpar enorm asked lambda wide formed same a.0 step numbers.0 numbers.1 worked.1.1.0 in
         let long : length step ≡ st.n = ap (λ (x : Output). length x.x) (sym is) ∙ x_long enorm asked formed lambda wide ∙ fits.upper_wide in
         let e : take st.n call.out ≡ step = ap (take st.n) worked.1.1.1 ∙ take_at step (drop (length step) out) st.n long in
         ap (λ (x : Given). lmpar enorm dwarf x lambda) given_is ∙ is ∙ ap (λ (x : List Float). record { x = x; par = a.0.lambda; qrsolvs = a.0.trials }) (sym e)

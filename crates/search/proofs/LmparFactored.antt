@@ -20,7 +20,7 @@ use Rattle.leaves.specs.Square.{diagonal}
 use Rattle.reduce.specs.Reduction.{Reduction, reduction_of}
 use Rattle.factor.specs.Factoring.{uppers, upper_column, factor_call, factored_room}
 use Rattle.leaves.proofs.Squares.{diagonal_from_at, diagonal-length}
-use Rattle.factor.proofs.Answered.{answered-room, answered-fits, answered-shaped, answered-state}
+use Rattle.factor.proofs.Answered.{answered_room, answered-fits, answered_shaped, answered-state}
 use Rattle.search.proofs.LmparVectors.{Enough}
 
 uppers_at : (m k : ℕ) (cs : List (List Float)) (ds : List Float) → length cs ≡ length ds → (i : ℕ) → i < length cs
@@ -40,27 +40,27 @@ module _ (m n : ℕ) (jacobian residuals store : List Float) (order : List ℕ) 
   abbrev made : Reduction
   made = reduction_of m n (columns m n jacobian) (take m residuals)
 
-  zero-there : m < n → get_or (diagonal (load n (factor_call m n jacobian residuals store order bench).store).upper) m nan ≡ plus_zero
+  zero_there : m < n → get_or (diagonal (load n (factor_call m n jacobian residuals store order bench).store).upper) m nan ≡ plus_zero
   unfolding factored_room
-  zero-there l =
+  zero_there l =
       let f = answered-fits m n jacobian residuals store order bench h in
-      let wide : length (uppers m 0 made.cols made.diag) ≡ n = (answered-shaped m n jacobian residuals store order bench h).upper_wide in
-      ap (λ (r : Room). get_or (diagonal r.upper) m nan) (answered-room m n jacobian residuals store order bench h)
+      let wide : length (uppers m 0 made.cols made.diag) ≡ n = (answered_shaped m n jacobian residuals store order bench h).upper_wide in
+      ap (λ (r : Room). get_or (diagonal r.upper) m nan) (answered_room m n jacobian residuals store order bench h)
       ∙ diagonal_from_at 0 m (uppers m 0 made.cols made.diag) (omega arith)
       ∙ ap (λ (k : ℕ). get_or (get_or (uppers m 0 made.cols made.diag) m []) k nan) (omega arith)
       ∙ ap (λ (c : List Float). get_or c m nan) (uppers_at m 0 made.cols made.diag (f.cols_wide ∙ sym f.diag_long) m (omega (arith, f.cols_wide)) ∙ ap (λ (k : ℕ). upper_column m k (get_or made.cols m []) (get_or made.diag m nan)) (omega arith))
       ∙ last_zero m (get_or made.cols m []) (get_or made.diag m nan) (f.cols_tall m l)
 
   -- LAW: as LMPAR looks at it, a factored R has rows enough
-  pub factored-enough : Enough (factor_call m n jacobian residuals store order bench).state.m
+  pub factored_enough : Enough (factor_call m n jacobian residuals store order bench).state.m
       (diagonal (load (factor_call m n jacobian residuals store order bench).state.n (factor_call m n jacobian residuals store order bench).store).upper)
   unfolding eq
-  factored-enough =
+  factored_enough =
       let d = diagonal (load n (factor_call m n jacobian residuals store order bench).store).upper in
-      let room = answered-room m n jacobian residuals store order bench h in
-      let wide : length d ≡ n = diagonal-length 0 _ ∙ ap (λ (r : Room). length r.upper) room ∙ (answered-shaped m n jacobian residuals store order bench h).upper_wide in
+      let room = answered_room m n jacobian residuals store order bench h in
+      let wide : length d ≡ n = diagonal-length 0 _ ∙ ap (λ (r : Room). length r.upper) room ∙ (answered_shaped m n jacobian residuals store order bench h).upper_wide in
       rw (answered-state m n jacobian residuals store order bench h) (by (leb n m) refl wide)
     where
       by : (z : Bool) → leb n m ≡ z → length (diagonal (load n (factor_call m n jacobian residuals store order bench).store).upper) ≡ n → Enough m (diagonal (load n (factor_call m n jacobian residuals store order bench).store).upper)
       by true e w = inl (omega (arith, leb-true n m e))
-      by false e w = inr (ap (λ (x : Float). eq x plus_zero) (zero-there (leb-false n m e)))
+      by false e w = inr (ap (λ (x : Float). eq x plus_zero) (zero_there (leb-false n m e)))

@@ -145,15 +145,15 @@ abs-zero (fin s m k) e = rw ((and-eq-true_iff (eqb (m * up k * 1) (0 * down k)) 
 
 -- LAW: what is not within delta·0.1 is no zero, by its value and by its absolute value
 module _ (x radius : Float) (b : Bounded (band radius)) where
-  pub outside-not-zero : le x (band radius) ≡ false → eq x plus_zero ≡ false
-  outside-not-zero h = by (eq x plus_zero) refl
+  pub outside_not_zero : le x (band radius) ≡ false → eq x plus_zero ≡ false
+  outside_not_zero h = by (eq x plus_zero) refl
     where
       by : (z : Bool) → eq x plus_zero ≡ z → z ≡ false
       by true e = absurd (true≢false (sym (zero-within x (band radius) e b.plain b.number) ∙ h))
       by false e = refl
 
-  pub apart-not-zero : le (abs_of x) (band radius) ≡ false → eq x plus_zero ≡ false
-  apart-not-zero h = by (eq x plus_zero) refl
+  pub apart_not_zero : le (abs_of x) (band radius) ≡ false → eq x plus_zero ≡ false
+  apart_not_zero h = by (eq x plus_zero) refl
     where
       by : (z : Bool) → eq x plus_zero ≡ z → z ≡ false
       by true e = absurd (true≢false (sym (zero-within (abs_of x) (band radius) (abs-zero x e) b.plain b.number) ∙ h))

@@ -26,20 +26,20 @@ use Rattle.search.specs.Qrsolv.{permuted}
 use Rattle.search.specs.Lmpar.{Output, Before, p1, nsing_of, gauss_newton, scaled, newton_step, newton_side, forward, parl_of, gradient, paru_of, par_of, iterations, lmpar}
 use Rattle.search.specs.declared.LMParameter.{LMParameter}
 use Rattle.search.proofs.LmparVectors.{Enough, rank_rows, full_rows, scaled_is, backward_is, forward_is, side_is, gradient_is, nsing_is, rank_full}
-use Rattle.search.proofs.Signs.{finite_not_nan}
+use Rattle.search.proofs.Signs.{finite_not_nan_lem}
 use Rattle.search.proofs.QrsolvSolution.{permuted_is}
 use Rattle.search.proofs.Shapes.{zero-length}
-use Rattle.search.proofs.LmparSigns.{divisor_number, band-bounded, outside-not-zero}
-use Rattle.search.proofs.LmparTrials.{Formed, AsNorm, given_of, before_of, output_of, tenth_of, trials-agree}
+use Rattle.search.proofs.LmparSigns.{divisor_number, band-bounded, outside_not_zero}
+use Rattle.search.proofs.LmparTrials.{Formed, AsNorm, given_of, before_of, output_of, tenth_of, trials_agree}
 
 -- ---- what stands before the trials
 module _ (p : Problem) (wide : Enough p.m (diagonal p.upper)) (formed : Formed p) where
-  nsing-rank : nsing_of (given_of p) ≡ rank (diagonal p.upper)
-  nsing-rank = nsing_is (length p.upper) 0 (diagonal p.upper) (omega (arith, diagonal-length 0 p.upper)) ∙ omega arith
+  nsing_rank : nsing_of (given_of p) ≡ rank (diagonal p.upper)
+  nsing_rank = nsing_is (length p.upper) 0 (diagonal p.upper) (omega (arith, diagonal-length 0 p.upper)) ∙ omega arith
 
   newton_is : gauss_newton (given_of p) ≡ zero_solved p.m p.upper p.qtb
   unfolding gauss_newton zero_solved
-  newton_is = rw (nsing-rank, rank_rows p.m (diagonal p.upper) wide, backward_is p.upper (rank (diagonal p.upper)) (take (rank (diagonal p.upper)) p.qtb), formed.rhs)
+  newton_is = rw (nsing_rank, rank_rows p.m (diagonal p.upper) wide, backward_is p.upper (rank (diagonal p.upper)) (take (rank (diagonal p.upper)) p.qtb), formed.rhs)
 
   step_is : permuted p.order (gauss_newton (given_of p)) ≡ undamped_step p
   unfolding undamped_step placed
@@ -49,14 +49,14 @@ module _ (p : Problem) (wide : Enough p.m (diagonal p.upper)) (formed : Formed p
       ∙ permuted_is p.order (zero_solved p.m p.upper p.qtb) (ap (λ (n : ℕ). is_permutation n p.order) long ∙ formed.permuted) (formed.pivots ∙ sym long)
 
   module _ (enorm : List Float → Float) (same : AsNorm enorm) where
-    parl-is : (step : List Float) (fp : Float) → is_finite (lower_bound_of p step fp) ≡ true → parl_of enorm (given_of p) (scaled_step p step) (scaled_norm p step) fp ≡ lower_bound_of p step fp
+    parl_is : (step : List Float) (fp : Float) → is_finite (lower_bound_of p step fp) ≡ true → parl_of enorm (given_of p) (scaled_step p step) (scaled_norm p step) fp ≡ lower_bound_of p step fp
     unfolding parl_of lower_bound_of non_singular_of newton_step newton undamped_slope direction
-    parl-is step fp finite =
+    parl_is step fp finite =
         let n = length p.upper in
         let d = diagonal p.upper in
         let v = scaled_step p step in
         let l : length d ≡ n = diagonal-length 0 p.upper in
-        let less : ltb (nsing_of (given_of p)) n ≡ not (no_zero d) = ap (λ (k : ℕ). ltb k n) nsing-rank ∙ ap (λ (k : ℕ). ltb (rank d) k) (sym l) ∙ rank_full d in
+        let less : ltb (nsing_of (given_of p)) n ≡ not (no_zero d) = ap (λ (k : ℕ). ltb k n) nsing_rank ∙ ap (λ (k : ℕ). ltb (rank d) k) (sym l) ∙ rank_full d in
         let full : (leb n p.m && no_zero d) ≡ no_zero d = ap (λ (k : ℕ). leb k p.m && no_zero d) (sym l) ∙ full_rows p.m d wide in
         let solved : forward [] p.upper (newton_side (given_of p) v (norm v)) ≡ forward_upper [] p.upper (direction p step) =
         ap (forward [] p.upper) (side_is (given_of p) v (norm v)) ∙ forward_is [] p.upper (direction p step) in
@@ -69,7 +69,7 @@ module _ (p : Problem) (wide : Enough p.m (diagonal p.upper)) (formed : Formed p
 
 gnorm_is : (enorm : List Float → Float) → AsNorm enorm → (p : Problem) → is_finite (gnorm p) ≡ true → enorm (gradient (given_of p) p.upper p.order) ≡ gnorm p
 unfolding gnorm
-gnorm_is enorm same p finite = ap enorm (gradient_is (given_of p) p.upper p.order) ∙ same _ (finite_not_nan _ finite)
+gnorm_is enorm same p finite = ap enorm (gradient_is (given_of p) p.upper p.order) ∙ same _ (finite_not_nan_lem _ finite)
 
 paru_is : (p : Problem) (g : Float) → paru_of dwarf (given_of p) g ≡ upper_bound g p.radius
 unfolding paru_of upper_bound p1 tenth
@@ -95,8 +95,8 @@ module _ (a₀ : Answer) (rest : Run) (whole onward : Output) where
 
 module _ (enorm : List Float → Float) (p : Problem) (initial : Float) where
   -- what the trials start from, in LMPAR's terms and in the search's
-  abbrev pub firstBy : List Float → Float → Before
-  firstBy wa2 dxnorm =
+  abbrev pub first_by : List Float → Float → Before
+  first_by wa2 dxnorm =
       let fp = sub binary64 dxnorm p.radius in
       let parl = parl_of enorm (given_of p) wa2 dxnorm fp in
       let g = enorm (gradient (given_of p) p.upper p.order) in
@@ -116,34 +116,34 @@ module _ (enorm : List Float → Float) (p : Problem) (initial : Float) where
   ended x b z = elim z [ true ↦ record { x = x; par = plus_zero; qrsolvs = 0 } | false ↦ iterations enorm dwarf (given_of p) 9 b ]
 
   module _ (wide : Enough p.m (diagonal p.upper)) (formed : Formed p) where
-    pub tested-is : (let v = scaled_step p (undamped_step p) in
-        lmpar enorm dwarf (given_of p) initial ≡ ended (undamped_step p) (firstBy v (enorm v)) (le (sub binary64 (enorm v) p.radius) (band p.radius)))
+    pub tested_is : (let v = scaled_step p (undamped_step p) in
+        lmpar enorm dwarf (given_of p) initial ≡ ended (undamped_step p) (first_by v (enorm v)) (le (sub binary64 (enorm v) p.radius) (band p.radius)))
     unfolding lmpar
-    tested-is =
+    tested_is =
         let step = undamped_step p in
         let test : List Float → Float → Bool = λ wa2 y. le (sub binary64 (enorm wa2) p.radius) y in
         let tenth = mul binary64 p1 p.radius in
-        ap (λ (x : List Float). ended x (firstBy (scaled p.diag x) (enorm (scaled p.diag x))) (test (scaled p.diag x) tenth)) (step_is p wide formed)
-        ∙ ap (λ (v : List Float). ended step (firstBy v (enorm v)) (test v tenth)) (scaled_is p.diag step)
-        ∙ ap (λ (y : Float). ended step (firstBy (scaled_step p step) (enorm (scaled_step p step))) (test (scaled_step p step) y)) (tenth_of p.radius)
+        ap (λ (x : List Float). ended x (first_by (scaled p.diag x) (enorm (scaled p.diag x))) (test (scaled p.diag x) tenth)) (step_is p wide formed)
+        ∙ ap (λ (v : List Float). ended step (first_by v (enorm v)) (test v tenth)) (scaled_is p.diag step)
+        ∙ ap (λ (y : Float). ended step (first_by (scaled_step p step) (enorm (scaled_step p step))) (test (scaled_step p step) y)) (tenth_of p.radius)
 
     module _ (same : AsNorm enorm) where
-      first-is : is_finite first.lower ≡ true → is_finite (gnorm p) ≡ true → firstBy (scaled_step p (undamped_step p)) (scaled_norm p (undamped_step p)) ≡ before_of 0 first
+      first_is : is_finite first.lower ≡ true → is_finite (gnorm p) ≡ true → first_by (scaled_step p (undamped_step p)) (scaled_norm p (undamped_step p)) ≡ before_of 0 first
       unfolding par_of first_lambda
-      first-is l g =
+      first_is l g =
           let step = undamped_step p in
-          rw (gnorm_is enorm same p g, paru_is p (gnorm p), parl-is p wide formed enorm same step (sub binary64 (scaled_norm p step) p.radius) l)
+          rw (gnorm_is enorm same p g, paru_is p (gnorm p), parl_is p wide formed enorm same step (sub binary64 (scaled_norm p step) p.radius) l)
 
-      pub answer-is-lmpar : (a : LMParameter) (step : List Float) → is_finite p.radius ≡ true → le p.radius plus_zero ≡ false
+      pub answer_is_lmpar : (a : LMParameter) (step : List Float) → is_finite p.radius ≡ true → le p.radius plus_zero ≡ false
           → answer_of p initial ≡ answered (a, step) → lmpar enorm dwarf (given_of p) initial ≡ record { x = step; par = a.lambda; qrsolvs = a.trials }
       unfolding answer_of run_of
-      answer-is-lmpar a step f above e =
+      answer_is_lmpar a step f above e =
           let s = undamped_step p in
           let n = scaled_norm p s in
           let v = scaled_step p s in
           let fp = sub binary64 n p.radius in
           let a₀ = answer plus_zero n 0 s in
           let b = band-bounded p.radius f above in
-          by_tests a₀ (trials_from p 9 first) _ (iterations enorm dwarf (given_of p) 9 (firstBy v n)) (is_finite n) (le fp (band p.radius)) (is_finite first.lower) (is_finite (gnorm p)) e
-          (λ h. tested-is ∙ ap (λ (x : Float). ended s (firstBy v x) (le (sub binary64 x p.radius) (band p.radius))) (same v (finite_not_nan n h)))
-          (λ out l g h. ap (iterations enorm dwarf (given_of p) 9) (first-is l g) ∙ trials-agree enorm same p formed f b 9 0 first a₀ (outside-not-zero fp p.radius b out) h)
+          by_tests a₀ (trials_from p 9 first) _ (iterations enorm dwarf (given_of p) 9 (first_by v n)) (is_finite n) (le fp (band p.radius)) (is_finite first.lower) (is_finite (gnorm p)) e
+          (λ h. tested_is ∙ ap (λ (x : Float). ended s (first_by v x) (le (sub binary64 x p.radius) (band p.radius))) (same v (finite_not_nan_lem n h)))
+          (λ out l g h. ap (iterations enorm dwarf (given_of p) 9) (first_is l g) ∙ trials_agree enorm same p formed f b 9 0 first a₀ (outside_not_zero fp p.radius b out) h)

@@ -87,18 +87,18 @@ do190_is r j temp p (x ∷ s) t (w ∷ ws) i c lp lt h =
     ∙ append_snoc t y (axpy_all (neg temp) s ws)
 
 module _ (n : ℕ) (r : List (List Float)) (sdiag : List Float) where
-  pub do210-is : (m j : ℕ) (front us rows : List (List Float)) (fd ds fw bs : List Float) → r ≡ front ++ laid us (tails rows) → sdiag ≡ fd ++ ds
+  pub do210_is : (m j : ℕ) (front us rows : List (List Float)) (fd ds fw bs : List Float) → r ≡ front ++ laid us (tails rows) → sdiag ≡ fd ++ ds
       → length front ≡ j → length fd ≡ j → length fw ≡ j → Rising (suc j) us → length us ≡ m → Tri m rows → length ds ≡ m → length bs ≡ m → j + m ≡ n
       → do210 n r sdiag m j (fw ++ bs) ≡ fw ++ forward_lower ds (tails rows) bs
   unfolding do210 forward_lower tails
-  do210-is zero j front us rows fd [] fw [] er ed lf ld lw s lu tri lds lbs e = refl
-  do210-is zero j front us rows fd [] fw (b ∷ bs) er ed lf ld lw s lu tri lds lbs e = absurd (omega arith)
-  do210-is zero j front us rows fd (d ∷ ds) fw bs er ed lf ld lw s lu tri lds lbs e = absurd (omega arith)
-  do210-is (suc m) j front us rows fd [] fw bs er ed lf ld lw s lu tri lds lbs e = absurd (omega arith)
-  do210-is (suc m) j front us rows fd (d ∷ ds) fw [] er ed lf ld lw s lu tri lds lbs e = absurd (omega arith)
-  do210-is (suc m) j front [] rows fd (d ∷ ds) fw (b ∷ bs) er ed lf ld lw s lu tri lds lbs e = absurd (omega arith)
-  do210-is (suc m) j front (u ∷ us) [] fd (d ∷ ds) fw (b ∷ bs) er ed lf ld lw s lu tri lds lbs e = absurd tri
-  do210-is (suc m) j front (u ∷ us) (row ∷ rows) fd (d ∷ ds) fw (b ∷ bs) er ed lf ld lw s lu tri lds lbs e =
+  do210_is zero j front us rows fd [] fw [] er ed lf ld lw s lu tri lds lbs e = refl
+  do210_is zero j front us rows fd [] fw (b ∷ bs) er ed lf ld lw s lu tri lds lbs e = absurd (omega arith)
+  do210_is zero j front us rows fd (d ∷ ds) fw bs er ed lf ld lw s lu tri lds lbs e = absurd (omega arith)
+  do210_is (suc m) j front us rows fd [] fw bs er ed lf ld lw s lu tri lds lbs e = absurd (omega arith)
+  do210_is (suc m) j front us rows fd (d ∷ ds) fw [] er ed lf ld lw s lu tri lds lbs e = absurd (omega arith)
+  do210_is (suc m) j front [] rows fd (d ∷ ds) fw (b ∷ bs) er ed lf ld lw s lu tri lds lbs e = absurd (omega arith)
+  do210_is (suc m) j front (u ∷ us) [] fd (d ∷ ds) fw (b ∷ bs) er ed lf ld lw s lu tri lds lbs e = absurd tri
+  do210_is (suc m) j front (u ∷ us) (row ∷ rows) fd (d ∷ ds) fw (b ∷ bs) er ed lf ld lw s lu tri lds lbs e =
       let t = div binary64 b d in
       let low = drop 1 row in
       let c = u ++ low in
@@ -111,7 +111,7 @@ module _ (n : ℕ) (r : List (List Float)) (sdiag : List Float) where
       ap₂ (λ (x y : Float). do210 n r sdiag m (suc j) (do190 r j (div binary64 x y) (n - suc j) (suc j) (put (fw ++ (b ∷ bs)) j (div binary64 x y)))) b-is d-is
       ∙ ap₂ (λ (i : ℕ) (v : List Float). do210 n r sdiag m (suc j) (do190 r j t i (suc j) v)) k (set_next fw bs b t lw)
       ∙ ap (do210 n r sdiag m (suc j)) (do190_is r j t u low (fw ++ (t ∷ [])) bs (suc j) column s.0 (length_snoc fw t lw) tall)
-      ∙ do210-is m (suc j) (front ++ (c ∷ [])) us rows (fd ++ (d ∷ [])) ds (fw ++ (t ∷ [])) next (er ∙ sym (append_snoc front c (laid us (tails rows)))) (ed ∙ sym (append_snoc fd d ds))
+      ∙ do210_is m (suc j) (front ++ (c ∷ [])) us rows (fd ++ (d ∷ [])) ds (fw ++ (t ∷ [])) next (er ∙ sym (append_snoc front c (laid us (tails rows)))) (ed ∙ sym (append_snoc fd d ds))
       (length_snoc front c lf) (length_snoc fd d ld) (length_snoc fw t lw) s.1 (omega arith) tri.1 (omega arith) (axpy-length (neg t) low bs ∙ omega arith) (omega arith)
       ∙ append_snoc fw t (forward_lower ds (tails rows) next)
 

@@ -75,18 +75,18 @@ ends_pivoted = refl
 abbrev tiny : Given
 tiny = given ((fin true 1 (negsuc 537) ∷ []) ∷ []) (0 ∷ []) (w 1 ∷ []) (fin true 1 (negsuc 537) ∷ []) (over 1 2)
 
-pub dwarf-shows :
+pub dwarf_shows :
     (printed (minpack dwarf tiny plus_zero) ≡ (0x3C90000000000000 ∷ [], 0x0010000000000000, 2))
     × (printed (minpack (over 222507385852 (10 ^ 319)) tiny plus_zero) ≡ (0x3C8FFFFFFFFF35A0 ∷ [], 0x0010000000006531, 3))
 unfolding opened to_bits
-dwarf-shows = (refl, refl)
+dwarf_shows = (refl, refl)
 
 -- one row, and an R whose second row is not 0: LMPAR, which is not told m, solves with both; the search's rank is at most m
 abbrev short : Problem
 short = record { m = 1; upper = (w 1 ∷ []) ∷ (w 1 ∷ w 1 ∷ []) ∷ []; qtb = w 1 ∷ w 1 ∷ []; order = 0 ∷ 1 ∷ []; diag = w 1 ∷ w 1 ∷ []; radius = w 1 }
 
-pub rows-needed :
+pub rows_needed :
     (printed (minpack dwarf (given_of short) plus_zero) ≡ (0 ∷ 0x3FF0000000000000 ∷ [], 0, 0))
     × (answer_of short plus_zero ≡ answered (answer plus_zero (w 1) 0 (w 1 ∷ w 0 ∷ [])))
 unfolding opened to_bits
-rows-needed = (refl, refl)
+rows_needed = (refl, refl)

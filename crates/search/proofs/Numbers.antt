@@ -22,12 +22,12 @@ unfolding raised
 raised-zero lambda upper e h = rw (e, thousandth_is) (rw (rw zero_is at h))
 
 module _ (t : Trial) (fp c : Float) where
-  pub next-falls : is_negative fp ≡ true
+  pub next_falls : is_negative fp ≡ true
       → ◌≡◌ {A = Next} (record { lambda = max_of t.lower (add binary64 t.lambda c); lower = t.lower; upper = min_of t.upper t.lambda; fp = fp }) (next t fp c)
   unfolding next
-  next-falls h = rw (h, next)
+  next_falls h = rw (h, next)
 
-  pub next-rises : {l : Float} → l ≡ max_of t.lower t.lambda → is_negative fp ≡ false
+  pub next_rises : {l : Float} → l ≡ max_of t.lower t.lambda → is_negative fp ≡ false
       → ◌≡◌ {A = Next} (record { lambda = max_of l (add binary64 t.lambda c); lower = l; upper = t.upper; fp = fp }) (next t fp c)
   unfolding next
-  next-rises e h = rw e (rw (h, next))
+  next_rises e h = rw e (rw (h, next))

@@ -39,10 +39,10 @@ module _ (j : ℕ) (front : List (List Float)) (h : length front ≡ j) where
       ∙ after_is (p ++ (y ∷ [])) os (mid ++ (d ∷ [])) later (suc i) (length_snoc p y l) (ap suc e ∙ omega (arith, length_snoc mid d {k = length mid} refl)) (omega arith)
       ∙ ap₂ (λ (v : List Float) (w : List (List Float)). front ++ (v ∷ w)) (append_snoc p y (entries later)) (sym past)
 
-  do10-is : (p os : List Float) (x : Float) (later : List (List Float)) → length p ≡ j → length os ≡ length later
+  do10_is : (p os : List Float) (x : Float) (later : List (List Float)) → length p ≡ j → length os ≡ length later
       → do10 j (suc (length later)) j (front ++ ((p ++ (x ∷ os)) ∷ later)) ≡ front ++ ((p ++ (x ∷ entries later)) ∷ later)
   unfolding do10
-  do10-is p os x later l o =
+  do10_is p os x later l o =
       let r = front ++ ((p ++ (x ∷ os)) ∷ later) in
       ap (do10 j (length later) (suc j)) (ap (put_cell r j j) (cell_at front p os x later h l) ∙ put_next front p os x later h l x)
       ∙ after_is (p ++ (x ∷ [])) os [] later (suc j) (length_snoc p x l) (omega arith) o
@@ -92,23 +92,23 @@ module _ (n : ℕ) (qtb : List Float) where
       let o : length os ≡ length (whole n us) = length-replicate (n - length u) nan ∙ omega (arith, s.0) in
       let c : u ++ os ≡ take j u ++ (x ∷ os) = ap (λ (v : List Float). v ++ os) (sym (last_is j u s.0)) ∙ append_snoc (take j u) x os in
       ap₂ (λ (i : ℕ) (v : List Float). do10 j i j (front ++ (v ∷ whole n us))) k c
-      ∙ do10-is j front h (take j u) os x (whole n us) t o
+      ∙ do10_is j front h (take j u) os x (whole n us) t o
       ∙ ap (λ (v : List Float). front ++ ((take j u ++ (x ∷ v)) ∷ whole n us)) (entries_whole n j (suc (suc j)) us s.1 (omega arith))
 
-  pub do20-is : (m j : ℕ) (front us : List (List Float)) (fx xs fw ws fq qs : List Float) → length front ≡ j → length fx ≡ j → length fw ≡ j → qtb ≡ fq ++ qs → length fq ≡ j
+  pub do20_is : (m j : ℕ) (front us : List (List Float)) (fx xs fw ws fq qs : List Float) → length front ≡ j → length fx ≡ j → length fw ≡ j → qtb ≡ fq ++ qs → length fq ≡ j
       → Rising (suc j) us → length us ≡ m → length xs ≡ m → length ws ≡ m → length qs ≡ m → j + m ≡ n
       → do20 n qtb m j (copied (front ++ whole n us) (fx ++ xs) (fw ++ ws)) ≡ copied (front ++ laid (aboves_from j us) (rows_from j us)) (fx ++ diagonal_from j us) (fw ++ qs)
   unfolding do20 aboves_from rows_from diagonal_from
-  do20-is zero j front [] fx [] fw [] fq [] h lx lw eq lq s lu lxs lws lqs e = refl
-  do20-is zero j front [] fx [] fw [] fq (b ∷ qs) h lx lw eq lq s lu lxs lws lqs e = absurd (omega arith)
-  do20-is zero j front [] fx [] fw (w ∷ ws) fq qs h lx lw eq lq s lu lxs lws lqs e = absurd (omega arith)
-  do20-is zero j front [] fx (x ∷ xs) fw ws fq qs h lx lw eq lq s lu lxs lws lqs e = absurd (omega arith)
-  do20-is zero j front (u ∷ us) fx xs fw ws fq qs h lx lw eq lq s lu lxs lws lqs e = absurd (omega arith)
-  do20-is (suc m) j front [] fx xs fw ws fq qs h lx lw eq lq s lu lxs lws lqs e = absurd (omega arith)
-  do20-is (suc m) j front (u ∷ us) fx [] fw ws fq qs h lx lw eq lq s lu lxs lws lqs e = absurd (omega arith)
-  do20-is (suc m) j front (u ∷ us) fx (x ∷ xs) fw [] fq qs h lx lw eq lq s lu lxs lws lqs e = absurd (omega arith)
-  do20-is (suc m) j front (u ∷ us) fx (x ∷ xs) fw (w ∷ ws) fq [] h lx lw eq lq s lu lxs lws lqs e = absurd (omega arith)
-  do20-is (suc m) j front (u ∷ us) fx (x ∷ xs) fw (w ∷ ws) fq (b ∷ qs) h lx lw eq lq s lu lxs lws lqs e =
+  do20_is zero j front [] fx [] fw [] fq [] h lx lw eq lq s lu lxs lws lqs e = refl
+  do20_is zero j front [] fx [] fw [] fq (b ∷ qs) h lx lw eq lq s lu lxs lws lqs e = absurd (omega arith)
+  do20_is zero j front [] fx [] fw (w ∷ ws) fq qs h lx lw eq lq s lu lxs lws lqs e = absurd (omega arith)
+  do20_is zero j front [] fx (x ∷ xs) fw ws fq qs h lx lw eq lq s lu lxs lws lqs e = absurd (omega arith)
+  do20_is zero j front (u ∷ us) fx xs fw ws fq qs h lx lw eq lq s lu lxs lws lqs e = absurd (omega arith)
+  do20_is (suc m) j front [] fx xs fw ws fq qs h lx lw eq lq s lu lxs lws lqs e = absurd (omega arith)
+  do20_is (suc m) j front (u ∷ us) fx [] fw ws fq qs h lx lw eq lq s lu lxs lws lqs e = absurd (omega arith)
+  do20_is (suc m) j front (u ∷ us) fx (x ∷ xs) fw [] fq qs h lx lw eq lq s lu lxs lws lqs e = absurd (omega arith)
+  do20_is (suc m) j front (u ∷ us) fx (x ∷ xs) fw (w ∷ ws) fq [] h lx lw eq lq s lu lxs lws lqs e = absurd (omega arith)
+  do20_is (suc m) j front (u ∷ us) fx (x ∷ xs) fw (w ∷ ws) fq (b ∷ qs) h lx lw eq lq s lu lxs lws lqs e =
       let d = get_or u j nan in
       let row = map (λ c. get_or c j nan) (u ∷ us) in
       let c = take j u ++ row in
@@ -117,6 +117,6 @@ module _ (n : ℕ) (qtb : List Float) where
       ap (λ (v : List (List Float)). cell v j j) r_is ∙ cell_at front (take j u) (map (λ v. get_or v j nan) us) d (whole n us) h (length-take-le j u (omega (arith, s.0))) in
       let b-is : at qtb j ≡ b = ap (λ (v : List Float). at v j) eq ∙ get_or_at fq b qs nan j lq in
       ap (do20 n qtb m (suc j)) (copied-same (r_is ∙ sym (append_snoc front c (whole n us))) (ap (put (fx ++ (x ∷ xs)) j) d-is ∙ set_next fx xs x d lx) (ap (put (fw ++ (w ∷ ws)) j) b-is ∙ set_next fw ws w b lw))
-      ∙ do20-is m (suc j) (front ++ (c ∷ [])) us (fx ++ (d ∷ [])) xs (fw ++ (b ∷ [])) ws (fq ++ (b ∷ [])) qs (length_snoc front c h) (length_snoc fx d lx) (length_snoc fw b lw)
+      ∙ do20_is m (suc j) (front ++ (c ∷ [])) us (fx ++ (d ∷ [])) xs (fw ++ (b ∷ [])) ws (fq ++ (b ∷ [])) qs (length_snoc front c h) (length_snoc fx d lx) (length_snoc fw b lw)
       (eq ∙ sym (append_snoc fq b qs)) (length_snoc fq b lq) s.1 (omega arith) (omega arith) (omega arith) (omega arith) (omega arith)
       ∙ copied-same (append_snoc front c (laid (aboves_from (suc j) us) (rows_from (suc j) us))) (append_snoc fx d (diagonal_from (suc j) us)) (append_snoc fw b qs)

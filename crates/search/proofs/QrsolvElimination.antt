@@ -13,7 +13,7 @@ use Rattle.leaves.specs.Square.{zeros}
 use Rattle.factor.specs.Solve.{gather}
 use Rattle.eliminate.specs.Eliminate.{Rows, rotated, started, onward, eliminated, heads, tails}
 use Rattle.search.specs.Qrsolv.{at, put, cell, put_cell, Work, do30, do80, damped_at, restored_at, do100}
-use Rattle.search.proofs.QrsolvPlaces.{laid, with_diagonal, Rising, length_snoc, cell_at, put-at, set_next}
+use Rattle.search.proofs.QrsolvPlaces.{laid, with_diagonal, Rising, length_snoc, cell_at, put_at, set_next}
 use Rattle.search.proofs.QrsolvTurns.{work, work-same, Rotated, do80_is}
 use Rattle.search.proofs.Shapes.{Tri, tri_length, started_even}
 
@@ -32,8 +32,8 @@ pick true P y y' s s' h k = h
 pick false P y y' s s' h k = k
 
 module _ (n m j : ℕ) (d : Float) (front tops rows : List (List Float)) (fs ss fw ws : List Float) (q : Float) (h : length front ≡ j) (ls : length fs ≡ j) (lw : length fw ≡ j) (st : Rising j tops) (lt : length tops ≡ suc m) (tri : Tri (suc m) rows) (lss : length ss ≡ suc m) (lws : length ws ≡ suc m) (e : j + suc m ≡ n) where
-  row-of-d : put (do30 (n - j) j (fs ++ ss)) j d ≡ fs ++ (d ∷ zeros (length rows - 1))
-  row-of-d =
+  row_of_d : put (do30 (n - j) j (fs ++ ss)) j d ≡ fs ++ (d ∷ zeros (length rows - 1))
+  row_of_d =
       let c : n - j ≡ length ss = omega arith in
       let i : length rows - 1 ≡ m = omega (arith, tri_length (suc m) rows tri) in
       ap (λ (k : ℕ). put (do30 k j (fs ++ ss)) j d) c
@@ -41,9 +41,9 @@ module _ (n m j : ℕ) (d : Float) (front tops rows : List (List Float)) (fs ss 
       ∙ set_at fs plus_zero (zeros m) d j ls
       ∙ ap (λ (k : ℕ). fs ++ (d ∷ zeros k)) (sym i)
 
-  damped-at : Rotated fs (suc m) (front ++ laid tops (started d rows ws).0) (fw ++ (started d rows ws).1) (damped_at n d j (work (front ++ laid tops rows) (fs ++ ss) (fw ++ ws) q))
+  damped_at_lem : Rotated fs (suc m) (front ++ laid tops (started d rows ws).0) (fw ++ (started d rows ws).1) (damped_at n d j (work (front ++ laid tops rows) (fs ++ ss) (fw ++ ws) q))
   unfolding started damped_at
-  damped-at =
+  damped_at_lem =
       let here = work (front ++ laid tops rows) (fs ++ ss) (fw ++ ws) q in
       let there : List Float → Work = λ v. do80 n (suc m) j (work (front ++ laid tops rows) v (fw ++ ws) plus_zero) in
       let row = d ∷ zeros (length rows - 1) in
@@ -51,7 +51,7 @@ module _ (n m j : ℕ) (d : Float) (front tops rows : List (List Float)) (fs ss 
       let c : n - j ≡ suc m = omega arith in
       let long : length row ≡ suc m = omega (arith, length-replicate (length rows - 1) plus_zero, tri_length (suc m) rows tri) in
       let P : Rows → Work → Type 0 = λ u v. Rotated fs (suc m) (front ++ laid tops u.0) (fw ++ u.1) v in
-      let started' : P y (there (put (do30 (n - j) j (fs ++ ss)) j d)) = subst (λ (v : List Float). P y (there v)) (sym row-of-d)
+      let started' : P y (there (put (do30 (n - j) j (fs ++ ss)) j d)) = subst (λ (v : List Float). P y (there v)) (sym row_of_d)
       (do80_is n (suc m) j front tops rows fs row fw ws plus_zero h ls lw st lt tri long lws e) in
       pick (eq d plus_zero) P (rows, ws) y here _ (record { spent = ss; spent_long = lss; r_is = refl; sdiag_is = refl; wa_is = refl })
       (subst (λ (i : ℕ). P y (do80 n i j (work (front ++ laid tops rows) (put (do30 (n - j) j (fs ++ ss)) j d) (fw ++ ws) plus_zero))) (sym c) started')
@@ -81,7 +81,7 @@ restored_at_lem j m x fx xs x₀ front back t row fs fw ws a w s ex lx h l ls f 
           (
             omega arith,
             work-same
-                (ap₂ (λ (v : List (List Float)) (y : Float). put_cell v j j y) f.r_is x-is ∙ put-at front t row a back h l x₀
+                (ap₂ (λ (v : List (List Float)) (y : Float). put_cell v j j y) f.r_is x-is ∙ put_at front t row a back h l x₀
                 ∙ ap c (sym (append_snoc t x₀ row)) ∙ sym (append_snoc front ((t ++ (x₀ ∷ [])) ++ row) back))
                 (ap₂ (λ (v : List Float) (y : Float). put v j y) g a-is ∙ set_next fs ss z a ls)
                 (f.wa_is ∙ sym (append_snoc fw w ws))
@@ -118,25 +118,25 @@ module _ (n : ℕ) (ipvt : List ℕ) (diag x : List Float) where
         wa_is = ap (λ (v : Work). (go v).wa) p.1.1 ∙ z.wa_is ∙ append_snoc fw w y.1;
       }
 
-  pub do100-is : (m j : ℕ) (tops : List (List Float)) (fl ls : List ℕ) (fx xs : List Float) → ipvt ≡ fl ++ ls → length fl ≡ j → length ls ≡ m → x ≡ fx ++ xs → length fx ≡ j → length xs ≡ m
+  pub do100_is : (m j : ℕ) (tops : List (List Float)) (fl ls : List ℕ) (fx xs : List Float) → ipvt ≡ fl ++ ls → length fl ≡ j → length ls ≡ m → x ≡ fx ++ xs → length fx ≡ j → length xs ≡ m
       → Rising j tops → length tops ≡ m → j + m ≡ n → Loop100 m j tops xs ls
   unfolding do100 eliminated gather heads tails
-  do100-is zero j [] fl [] fx [] ei li ll ex lx lxs st lt e front [] fs [] fw [] q h ls lw tri lss lws = record { r_is = refl; sdiag_is = refl; wa_is = refl }
-  do100-is zero j [] fl [] fx [] ei li ll ex lx lxs st lt e front [] fs [] fw (w ∷ ws) q h lf lw tri lss lws = absurd (omega arith)
-  do100-is zero j [] fl [] fx [] ei li ll ex lx lxs st lt e front [] fs (s ∷ ss) fw ws q h lf lw tri lss lws = absurd (omega arith)
-  do100-is zero j [] fl [] fx (x₀ ∷ xs) ei li ll ex lx lxs st lt e front rows fs ss fw ws q h lf lw tri lss lws = absurd (omega arith)
-  do100-is zero j [] fl (l ∷ ls) fx xs ei li ll ex lx lxs st lt e front rows fs ss fw ws q h lf lw tri lss lws = absurd (omega arith)
-  do100-is zero j (t ∷ tops) fl ls fx xs ei li ll ex lx lxs st lt e front rows fs ss fw ws q h lf lw tri lss lws = absurd (omega arith)
-  do100-is (suc m) j [] fl ls fx xs ei li ll ex lx lxs st lt e front rows fs ss fw ws q h lf lw tri lss lws = absurd (omega arith)
-  do100-is (suc m) j (t ∷ tops) fl [] fx xs ei li ll ex lx lxs st lt e front rows fs ss fw ws q h lf lw tri lss lws = absurd (omega arith)
-  do100-is (suc m) j (t ∷ tops) fl (l ∷ ls) fx [] ei li ll ex lx lxs st lt e front rows fs ss fw ws q h lf lw tri lss lws = absurd (omega arith)
-  do100-is (suc m) j (t ∷ tops) fl (l ∷ ls) fx (x₀ ∷ xs) ei li ll ex lx lxs st lt e front rows fs ss fw ws q h lf lw tri lss lws =
+  do100_is zero j [] fl [] fx [] ei li ll ex lx lxs st lt e front [] fs [] fw [] q h ls lw tri lss lws = record { r_is = refl; sdiag_is = refl; wa_is = refl }
+  do100_is zero j [] fl [] fx [] ei li ll ex lx lxs st lt e front [] fs [] fw (w ∷ ws) q h lf lw tri lss lws = absurd (omega arith)
+  do100_is zero j [] fl [] fx [] ei li ll ex lx lxs st lt e front [] fs (s ∷ ss) fw ws q h lf lw tri lss lws = absurd (omega arith)
+  do100_is zero j [] fl [] fx (x₀ ∷ xs) ei li ll ex lx lxs st lt e front rows fs ss fw ws q h lf lw tri lss lws = absurd (omega arith)
+  do100_is zero j [] fl (l ∷ ls) fx xs ei li ll ex lx lxs st lt e front rows fs ss fw ws q h lf lw tri lss lws = absurd (omega arith)
+  do100_is zero j (t ∷ tops) fl ls fx xs ei li ll ex lx lxs st lt e front rows fs ss fw ws q h lf lw tri lss lws = absurd (omega arith)
+  do100_is (suc m) j [] fl ls fx xs ei li ll ex lx lxs st lt e front rows fs ss fw ws q h lf lw tri lss lws = absurd (omega arith)
+  do100_is (suc m) j (t ∷ tops) fl [] fx xs ei li ll ex lx lxs st lt e front rows fs ss fw ws q h lf lw tri lss lws = absurd (omega arith)
+  do100_is (suc m) j (t ∷ tops) fl (l ∷ ls) fx [] ei li ll ex lx lxs st lt e front rows fs ss fw ws q h lf lw tri lss lws = absurd (omega arith)
+  do100_is (suc m) j (t ∷ tops) fl (l ∷ ls) fx (x₀ ∷ xs) ei li ll ex lx lxs st lt e front rows fs ss fw ws q h lf lw tri lss lws =
       let d = get_or diag l nan in
       let y = started d rows ws in
       let d-is : get_or diag (get_or ipvt j 0) nan ≡ d = ap (λ (v : List ℕ). get_or diag (get_or v j 0) nan) ei ∙ ap (λ (i : ℕ). get_or diag i nan) (get_or_at fl l ls 0 j li) in
       let f : Rotated fs (suc m) (front ++ laid (t ∷ tops) y.0) (fw ++ y.1) (damped_at n (get_or diag (get_or ipvt j 0) nan) j (work (front ++ laid (t ∷ tops) rows) (fs ++ ss) (fw ++ ws) q)) =
-      rw d-is (damped-at n m j d front (t ∷ tops) rows fs ss fw ws q h lf lw st lt tri lss lws e) in
+      rw d-is (damped_at_lem n m j d front (t ∷ tops) rows fs ss fw ws q h lf lw st lt tri lss lws e) in
       let even = started_even m d rows ws tri lws in
       next100 m j t tops x₀ fx xs ls ex lx st.0
-      (do100-is m (suc j) tops (fl ++ (l ∷ [])) ls (fx ++ (x₀ ∷ [])) xs (ei ∙ sym (append_snoc fl l ls)) (length_snoc fl l li) (omega arith) (ex ∙ sym (append_snoc fx x₀ xs)) (length_snoc fx x₀ lx) (omega arith) st.1 (omega arith) (omega arith))
+      (do100_is m (suc j) tops (fl ++ (l ∷ [])) ls (fx ++ (x₀ ∷ [])) xs (ei ∙ sym (append_snoc fl l ls)) (length_snoc fl l li) (omega arith) (ex ∙ sym (append_snoc fx x₀ xs)) (length_snoc fx x₀ lx) (omega arith) st.1 (omega arith) (omega arith))
       front y.0 fs fw y.1 _ h lf lw even.0 even.1 f

@@ -38,8 +38,8 @@ module _ (front : List (List Float)) (p xs : List Float) (x : Float) (back : Lis
   pub cell_at : cell (front ++ ((p ++ (x ∷ xs)) ∷ back)) i k ≡ x
   cell_at = ap (λ (c : List Float). get_or c i nan) (get_or_at front (p ++ (x ∷ xs)) back [] k h) ∙ get_or_at p x xs nan i l
 
-  pub put-at : (y : Float) → put_cell (front ++ ((p ++ (x ∷ xs)) ∷ back)) i k y ≡ front ++ ((p ++ (y ∷ xs)) ∷ back)
-  put-at y =
+  pub put_at : (y : Float) → put_cell (front ++ ((p ++ (x ∷ xs)) ∷ back)) i k y ≡ front ++ ((p ++ (y ∷ xs)) ∷ back)
+  put_at y =
       let r = front ++ ((p ++ (x ∷ xs)) ∷ back) in
       ap (λ (c : List Float). set r k (set c i y)) (get_or_at front (p ++ (x ∷ xs)) back [] k h)
       ∙ ap (set r k) (set_at p x xs y i l)
@@ -47,7 +47,7 @@ module _ (front : List (List Float)) (p xs : List Float) (x : Float) (back : Lis
 
   -- and what stands there belongs to what comes before
   pub put_next : (y : Float) → put_cell (front ++ ((p ++ (x ∷ xs)) ∷ back)) i k y ≡ front ++ (((p ++ (y ∷ [])) ++ xs) ∷ back)
-  put_next y = put-at y ∙ ap (λ (c : List Float). front ++ (c ∷ back)) (sym (append_snoc p y xs))
+  put_next y = put_at y ∙ ap (λ (c : List Float). front ++ (c ∷ back)) (sym (append_snoc p y xs))
 
 pub set_next : (p xs : List Float) (x y : Float) {i : ℕ} → length p ≡ i → set (p ++ (x ∷ xs)) i y ≡ (p ++ (y ∷ [])) ++ xs
 set_next p xs x y {i} l = set_at p x xs y i l ∙ sym (append_snoc p y xs)

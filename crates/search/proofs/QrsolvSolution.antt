@@ -42,18 +42,18 @@ module _ (n : ℕ) (sdiag : List Float) where
       ∙ after110 (fw ++ (plus_zero ∷ [])) ws (suc j) k (length_snoc fw plus_zero l) h
       ∙ ap (cut k) (append_snoc fw plus_zero (zeros (length ws)))
 
-  pub do110-is : (fd ds fw ws : List Float) (j : ℕ) → sdiag ≡ fd ++ ds → length fd ≡ j → length fw ≡ j → length ds ≡ length ws → j + length ds ≡ n
+  pub do110_is : (fd ds fw ws : List Float) (j : ℕ) → sdiag ≡ fd ++ ds → length fd ≡ j → length fw ≡ j → length ds ≡ length ws → j + length ds ≡ n
       → do110 n sdiag (length ds) j (cut n (fw ++ ws)) ≡ cut (j + rank ds) (fw ++ (take (rank ds) ws ++ zeros (length ws - rank ds)))
   unfolding do110 rank
-  do110-is fd [] fw [] j e ld lw l h = ap₂ (λ (i : ℕ) (v : List Float). cut i (fw ++ v)) (omega arith) refl
-  do110-is fd [] fw (w ∷ ws) j e ld lw l h = absurd (omega arith)
-  do110-is fd (d ∷ ds) fw [] j e ld lw l h = absurd (omega arith)
-  do110-is fd (d ∷ ds) fw (w ∷ ws) j e ld lw l h =
+  do110_is fd [] fw [] j e ld lw l h = ap₂ (λ (i : ℕ) (v : List Float). cut i (fw ++ v)) (omega arith) refl
+  do110_is fd [] fw (w ∷ ws) j e ld lw l h = absurd (omega arith)
+  do110_is fd (d ∷ ds) fw [] j e ld lw l h = absurd (omega arith)
+  do110_is fd (d ∷ ds) fw (w ∷ ws) j e ld lw l h =
       let W = fw ++ (w ∷ ws) in
       let d-is : at sdiag j ≡ d = ap (λ (v : List Float). at v j) e ∙ get_or_at fd d ds nan j ld in
       ap (λ (x : Float). do110 n sdiag (length ds) (suc j) (at110 (nsing_at n j n x) j W)) d-is
       ∙ ap (λ (z : Bool). do110 n sdiag (length ds) (suc j) (at110 (cond (eq d plus_zero && z) j n) j W)) (eq-eqb n n refl)
-      ∙ by (eq d plus_zero) (do110-is (fd ++ (d ∷ [])) ds (fw ++ (w ∷ [])) ws (suc j) (e ∙ sym (append_snoc fd d ds)) (length_snoc fd d ld) (length_snoc fw w lw) (omega arith) (omega arith))
+      ∙ by (eq d plus_zero) (do110_is (fd ++ (d ∷ [])) ds (fw ++ (w ∷ [])) ws (suc j) (e ∙ sym (append_snoc fd d ds)) (length_snoc fd d ld) (length_snoc fw w lw) (omega arith) (omega arith))
     where
       by : (z : Bool) → do110 n sdiag (length ds) (suc j) (cut n ((fw ++ (w ∷ [])) ++ ws)) ≡ cut (suc j + rank ds) ((fw ++ (w ∷ [])) ++ (take (rank ds) ws ++ zeros (length ws - rank ds)))
           → do110 n sdiag (length ds) (suc j) (at110 (cond (z && true) j n) j (fw ++ (w ∷ ws)))
@@ -109,41 +109,41 @@ module _ (nsing : ℕ) (r : List (List Float)) (sdiag : List Float) where
       ∙ ap (λ (x : List Float). put x k v) flat
       ∙ set_at fw w (later ++ zs) v k lw)
 
-  pub do140-is : (m t k : ℕ) (front us rows : List (List Float)) (fd ds fw ws zs : List Float) → r ≡ front ++ laid us (tails rows) → sdiag ≡ fd ++ ds
+  pub do140_is : (m t k : ℕ) (front us rows : List (List Float)) (fd ds fw ws zs : List Float) → r ≡ front ++ laid us (tails rows) → sdiag ≡ fd ++ ds
       → length front ≡ k → length fd ≡ k → length fw ≡ k → Rising (suc k) us → length us ≡ t → Tri t rows → length ds ≡ t → length ws ≡ m → m ≤ t → k + m ≡ nsing
       → do140 nsing r sdiag (k + m) (fw ++ (ws ++ zs)) ≡ do140 nsing r sdiag k (fw ++ (backward (take m ds) (take m (tails rows)) ws ++ zs))
   unfolding backward tails
-  do140-is zero t k front us rows fd ds fw [] zs er ed lf ld lw s lu tri lds lws h e = ap (λ (i : ℕ). do140 nsing r sdiag i (fw ++ zs)) (omega arith)
-  do140-is zero t k front us rows fd ds fw (w ∷ ws) zs er ed lf ld lw s lu tri lds lws h e = absurd (omega arith)
-  do140-is (suc m) t k front us rows fd ds fw [] zs er ed lf ld lw s lu tri lds lws h e = absurd (omega arith)
-  do140-is (suc m) zero k front us rows fd ds fw (w ∷ ws) zs er ed lf ld lw s lu tri lds lws h e = absurd (omega arith)
-  do140-is (suc m) (suc t) k front [] rows fd ds fw (w ∷ ws) zs er ed lf ld lw s lu tri lds lws h e = absurd (omega arith)
-  do140-is (suc m) (suc t) k front (u ∷ us) [] fd ds fw (w ∷ ws) zs er ed lf ld lw s lu tri lds lws h e = absurd tri
-  do140-is (suc m) (suc t) k front (u ∷ us) (row ∷ rows) fd [] fw (w ∷ ws) zs er ed lf ld lw s lu tri lds lws h e = absurd (omega arith)
-  do140-is (suc m) (suc t) k front (u ∷ us) (row ∷ rows) fd (d ∷ ds) fw (w ∷ ws) zs er ed lf ld lw s lu tri lds lws h e =
+  do140_is zero t k front us rows fd ds fw [] zs er ed lf ld lw s lu tri lds lws h e = ap (λ (i : ℕ). do140 nsing r sdiag i (fw ++ zs)) (omega arith)
+  do140_is zero t k front us rows fd ds fw (w ∷ ws) zs er ed lf ld lw s lu tri lds lws h e = absurd (omega arith)
+  do140_is (suc m) t k front us rows fd ds fw [] zs er ed lf ld lw s lu tri lds lws h e = absurd (omega arith)
+  do140_is (suc m) zero k front us rows fd ds fw (w ∷ ws) zs er ed lf ld lw s lu tri lds lws h e = absurd (omega arith)
+  do140_is (suc m) (suc t) k front [] rows fd ds fw (w ∷ ws) zs er ed lf ld lw s lu tri lds lws h e = absurd (omega arith)
+  do140_is (suc m) (suc t) k front (u ∷ us) [] fd ds fw (w ∷ ws) zs er ed lf ld lw s lu tri lds lws h e = absurd tri
+  do140_is (suc m) (suc t) k front (u ∷ us) (row ∷ rows) fd [] fw (w ∷ ws) zs er ed lf ld lw s lu tri lds lws h e = absurd (omega arith)
+  do140_is (suc m) (suc t) k front (u ∷ us) (row ∷ rows) fd (d ∷ ds) fw (w ∷ ws) zs er ed lf ld lw s lu tri lds lws h e =
       let low = drop 1 row in
       let c = u ++ low in
       let later = backward (take m ds) (take m (tails rows)) ws in
       let wide : length (tails rows) ≡ t = length-map rows _ ∙ tri_length t rows tri.1 in
       let long : length later ≡ m = back_length (take m ds) (take m (tails rows)) ws (length-take-le m ds (omega arith) ∙ omega arith) (length-take-le m (tails rows) (omega arith) ∙ omega arith) ∙ omega arith in
       ap₂ (λ (i : ℕ) (v : List Float). do140 nsing r sdiag i v) (omega arith) (sym (append_snoc fw w (ws ++ zs)))
-      ∙ do140-is m t (suc k) (front ++ (c ∷ [])) us rows (fd ++ (d ∷ [])) ds (fw ++ (w ∷ [])) ws zs (er ∙ sym (append_snoc front c (laid us (tails rows)))) (ed ∙ sym (append_snoc fd d ds))
+      ∙ do140_is m t (suc k) (front ++ (c ∷ [])) us rows (fd ++ (d ∷ [])) ds (fw ++ (w ∷ [])) ws zs (er ∙ sym (append_snoc front c (laid us (tails rows)))) (ed ∙ sym (append_snoc fd d ds))
       (length_snoc front c lf) (length_snoc fd d ld) (length_snoc fw w lw) s.1 (omega arith) tri.1 (omega arith) (omega arith) (omega arith) (omega arith)
       ∙ turn140 k m front (laid us (tails rows)) u low fd ds fw later zs d w er ed lf ld lw s.0 long (omega (arith, length-drop 1 row, tri.0)) e
 
 -- ---- 160
 module _ (ipvt : List ℕ) (wa : List Float) where
-  pub do160-is : (fl ls : List ℕ) (fw ws : List Float) (j : ℕ) (x : List Float) → ipvt ≡ fl ++ ls → wa ≡ fw ++ ws → length fl ≡ j → length fw ≡ j → length ls ≡ length ws
+  pub do160_is : (fl ls : List ℕ) (fw ws : List Float) (j : ℕ) (x : List Float) → ipvt ≡ fl ++ ls → wa ≡ fw ++ ws → length fl ≡ j → length fw ≡ j → length ls ≡ length ws
       → do160 ipvt wa (length ws) j x ≡ scatter ls ws x
   unfolding do160 scatter
-  do160-is fl [] fw [] j x ei ew li lw h = refl
-  do160-is fl [] fw (w ∷ ws) j x ei ew li lw h = absurd (omega arith)
-  do160-is fl (l ∷ ls) fw [] j x ei ew li lw h = absurd (omega arith)
-  do160-is fl (l ∷ ls) fw (w ∷ ws) j x ei ew li lw h =
+  do160_is fl [] fw [] j x ei ew li lw h = refl
+  do160_is fl [] fw (w ∷ ws) j x ei ew li lw h = absurd (omega arith)
+  do160_is fl (l ∷ ls) fw [] j x ei ew li lw h = absurd (omega arith)
+  do160_is fl (l ∷ ls) fw (w ∷ ws) j x ei ew li lw h =
       let l-is : get_or ipvt j 0 ≡ l = ap (λ (v : List ℕ). get_or v j 0) ei ∙ get_or_at fl l ls 0 j li in
       let w-is : at wa j ≡ w = ap (λ (v : List Float). at v j) ew ∙ get_or_at fw w ws nan j lw in
       ap₂ (λ (i : ℕ) (y : Float). do160 ipvt wa (length ws) (suc j) (put x i y)) l-is w-is
-      ∙ do160-is (fl ++ (l ∷ [])) ls (fw ++ (w ∷ [])) ws (suc j) (set x l w) (ei ∙ sym (append_snoc fl l ls)) (ew ∙ sym (append_snoc fw w ws)) (length_snoc fl l li) (length_snoc fw w lw) (omega arith)
+      ∙ do160_is (fl ++ (l ∷ [])) ls (fw ++ (w ∷ [])) ws (suc j) (set x l w) (ei ∙ sym (append_snoc fl l ls)) (ew ∙ sym (append_snoc fw w ws)) (length_snoc fl l li) (length_snoc fw w lw) (omega arith)
 
 -- What stood in x before does not show: a permutation writes every place.
 pub placed_is : (n : ℕ) (ipvt : List ℕ) (wa x : List Float) → is_permutation n ipvt ≡ true → length ipvt ≡ n → length wa ≡ n → length x ≡ n
@@ -151,7 +151,7 @@ pub placed_is : (n : ℕ) (ipvt : List ℕ) (wa x : List Float) → is_permutati
 placed_is n ipvt wa x order li lw lx =
     let t : take n ipvt ≡ ipvt = take_all n ipvt (omega arith) in
     ap (λ (i : ℕ). do160 ipvt wa i 0 x) (sym lw)
-    ∙ do160-is ipvt wa [] ipvt [] wa 0 x refl refl refl refl (li ∙ sym lw)
+    ∙ do160_is ipvt wa [] ipvt [] wa 0 x refl refl refl refl (li ∙ sym lw)
     ∙ ap (λ (o : List ℕ). scatter o wa x) (sym t)
     ∙ scatter_fresh n ipvt wa x (zeros (length wa)) order (omega arith) lw lx (length-replicate (length wa) plus_zero ∙ lw)
     ∙ ap (λ (o : List ℕ). scatter o wa (zeros (length wa))) t

@@ -28,13 +28,13 @@ module _ (g : Rotation) (front back : List (List Float)) (k : ℕ) (h : length f
   abbrev column : List Float → List (List Float)
   column c = front ++ (c ∷ back)
 
-  do60-is : (p t rs ss : List Float) (i : ℕ) → length p ≡ i → length t ≡ i → length rs ≡ length ss
+  do60_is : (p t rs ss : List Float) (i : ℕ) → length p ≡ i → length t ≡ i → length rs ≡ length ss
       → do60 (turn_by g) k (length rs) i (work (column (p ++ rs)) (t ++ ss) wa q) ≡ work (column (p ++ turned_all g rs ss)) (t ++ left_all g rs ss) wa q
   unfolding do60 turned_all left_all
-  do60-is p t [] [] i a b e = refl
-  do60-is p t [] (s ∷ ss) i a b e = absurd (omega arith)
-  do60-is p t (r ∷ rs) [] i a b e = absurd (omega arith)
-  do60-is p t (r ∷ rs) (s ∷ ss) i a b e =
+  do60_is p t [] [] i a b e = refl
+  do60_is p t [] (s ∷ ss) i a b e = absurd (omega arith)
+  do60_is p t (r ∷ rs) [] i a b e = absurd (omega arith)
+  do60_is p t (r ∷ rs) (s ∷ ss) i a b e =
       let y = turned g r s in
       let z = left g r s in
       let c : cell (column (p ++ (r ∷ rs))) i k ≡ r = cell_at front p rs r back h a in
@@ -42,7 +42,7 @@ module _ (g : Rotation) (front back : List (List Float)) (k : ℕ) (h : length f
       let one = ap (put_cell (column (p ++ (r ∷ rs))) i k) (ap₂ (stays (turn_by g)) c d ∙ stays_is g r s) ∙ put_next front p rs r back h a y in
       let two = ap (put (t ++ (s ∷ ss)) i) (ap₂ (passes (turn_by g)) c d ∙ passes_is g r s) ∙ set_next t ss s z b in
       ap (do60 (turn_by g) k (length rs) (suc i)) (work-same one two (refl {a = wa}) (refl {a = q}))
-      ∙ do60-is (p ++ (y ∷ [])) (t ++ (z ∷ [])) rs ss (suc i) (length_snoc p y a) (length_snoc t z b) (omega arith)
+      ∙ do60_is (p ++ (y ∷ [])) (t ++ (z ∷ [])) rs ss (suc i) (length_snoc p y a) (length_snoc t z b) (omega arith)
       ∙ work-same (ap column (append_snoc p y (turned_all g rs ss))) (append_snoc t z (left_all g rs ss)) (refl {a = wa}) (refl {a = q})
 
 -- ---- 80: what it leaves, with the numbers that stand in sdiag from the first place on left open
@@ -66,11 +66,11 @@ from_next fs x m front c r fw w ws s h = record {
 
 -- a loop that goes on from v
 module _ (fs : List Float) (x : Float) (m : ℕ) (front : List (List Float)) (c : List Float) (fw : List Float) (w : Float) where
-  onward-from : (f : Work → Work) (now : List (List Float)) (ss ws : List Float) (q : Float) {v : Work} (r : List (List Float)) (wa : List Float)
+  onward_from : (f : Work → Work) (now : List (List Float)) (ss ws : List Float) (q : Float) {v : Work} (r : List (List Float)) (wa : List Float)
       → v ≡ work (front ++ (c ∷ now)) (fs ++ (x ∷ ss)) (fw ++ (w ∷ ws)) q
       → Rotated (fs ++ (x ∷ [])) m ((front ++ (c ∷ [])) ++ r) ((fw ++ (w ∷ [])) ++ wa) (f (work ((front ++ (c ∷ [])) ++ now) ((fs ++ (x ∷ [])) ++ ss) ((fw ++ (w ∷ [])) ++ ws) q))
       → Rotated fs (suc m) (front ++ (c ∷ r)) (fw ++ (w ∷ wa)) (f v)
-  onward-from f now ss ws q {v} r wa e h =
+  onward_from f now ss ws q {v} r wa e h =
       let s = work ((front ++ (c ∷ [])) ++ now) ((fs ++ (x ∷ [])) ++ ss) ((fw ++ (w ∷ [])) ++ ws) q in
       let same : s ≡ v = work-same (append_snoc front c now) (append_snoc fs x ss) (append_snoc fw w ws) refl ∙ sym e in
       subst (λ (u : Work). Rotated fs (suc m) (front ++ (c ∷ r)) (fw ++ (w ∷ wa)) (f u)) same (from_next fs x m front c r fw w wa (f s) h)
@@ -103,7 +103,7 @@ module _ (k : ℕ) (front back : List (List Float)) (h : length front ≡ k) whe
       (sym (append_snoc fs s ss))
       (ap (put (fw ++ (w ∷ ws)) k) (stays_is g w q) ∙ set_at fw w ws (turned g w q) k lw)
       (passes_is g w q))
-      ∙ do60-is g front back k h (fw ++ (turned g w q ∷ ws)) (left g w q) (t ++ (y ∷ [])) (fs ++ (s ∷ [])) xs ss (suc k) (length_snoc t y l) (length_snoc fs s ls) (la ∙ sym lss)
+      ∙ do60_is g front back k h (fw ++ (turned g w q ∷ ws)) (left g w q) (t ++ (y ∷ [])) (fs ++ (s ∷ [])) xs ss (suc k) (length_snoc t y l) (length_snoc fs s ls) (la ∙ sym lss)
       ∙ work-same (ap (λ (x : List Float). front ++ (x ∷ back)) (append_snoc t y (turned_all g xs ss))) (append_snoc fs s (left_all g xs ss)) refl refl
 
 -- what 80 leaves from k on
@@ -129,8 +129,8 @@ module _ (n m k : ℕ) (front tops rows : List (List Float)) (t xs fs ss fw ws :
       let z = rotated rows ws (left_all g xs ss) (left g w q) in
       rw (get_or_at fs s ss nan k ls) (pick (eq s plus_zero) (λ u v. Rotated fs (suc m) (front ++ laid (t ∷ tops) u.0) (fw ++ u.1) (do80 n m (suc k) v))
       (cons (a ∷ xs) w y) (cons row (turned g w q) z) here (turned_at n k here)
-      (onward-from fs s m front (t ++ (a ∷ xs)) fw w (do80 n m (suc k)) (laid tops rows) ss ws q (laid tops y.0) y.1 refl skipped)
-      (onward-from fs s m front (t ++ row) fw (turned g w q) (do80 n m (suc k)) (laid tops rows) (left_all g xs ss) ws (left g w q) (laid tops z.0) z.1 step went))
+      (onward_from fs s m front (t ++ (a ∷ xs)) fw w (do80 n m (suc k)) (laid tops rows) ss ws q (laid tops y.0) y.1 refl skipped)
+      (onward_from fs s m front (t ++ row) fw (turned g w q) (do80 n m (suc k)) (laid tops rows) (left_all g xs ss) ws (left g w q) (laid tops z.0) z.1 step went))
 
 pub do80_is : (n m k : ℕ) (front tops rows : List (List Float)) (fs ss fw ws : List Float) (q : Float) → length front ≡ k → length fs ≡ k → length fw ≡ k
     → Rising k tops → length tops ≡ m → Tri m rows → length ss ≡ m → length ws ≡ m → k + m ≡ n → Loop80 n m k front tops rows fs ss fw ws q

@@ -15,8 +15,8 @@ use Rattle.search.specs.Run.{Run, Trial, Stop, stopped, last, trial, undamped, w
 use Rattle.search.specs.Run as run
 use Rattle.search.specs.Ending.{ending, RuledFrom}
 use Rattle.search.specs.Search.{Answer, answer, concluded, answer_of}
-use Rattle.search.proofs.Sound.{first-sound}
-use Rattle.search.proofs.Runs.{EachTrial, Good, Counted, each_good, each_counted, each_ruled, undampedFp, first, run-cases, some_trial}
+use Rattle.search.proofs.Sound.{first_sound}
+use Rattle.search.proofs.Runs.{EachTrial, Good, Counted, each_good, each_counted, each_ruled, undamped_fp, first, run_cases, some_trial}
 use Rattle.search.specs.inner.Counting.{trial_count}
 
 -- ---- an answer that is read off a run: what was there before the first trial, or the last trial
@@ -30,10 +30,10 @@ module _ (P : Trial → Run → Type 0) where
     count : b.0.trials ≡ k + trial_count r
     of : ((r ≡ stopped stop) × (b ≡ a)) ⊎ Last stop b
 
-  was-last : (j : ℕ) (t : Trial) (r : Run) (b : Answer) (x : Stop) → P t r → ((r ≡ stopped x) × (b ≡ answer t.lambda t.norm j t.step)) ⊎ Last x b → Last x b
-  was-last j t r b x p (inl q) =
+  was_last : (j : ℕ) (t : Trial) (r : Run) (b : Answer) (x : Stop) → P t r → ((r ≡ stopped x) × (b ≡ answer t.lambda t.norm j t.step)) ⊎ Last x b → Last x b
+  was_last j t r b x p (inl q) =
       (t, (subst (λ (y : Run). P t y) q.0 p, q.1 ∙ ap (λ (i : ℕ). answer t.lambda t.norm i t.step) (ap (λ (y : Answer). y.0.trials) (sym q.1))))
-  was-last j t r b x p (inr q) = q
+  was_last j t r b x p (inr q) = q
 
   read_off : (k : ℕ) (a : Answer) (r : Run) (b : Answer) → a.0.trials ≡ k → EachTrial P r → concluded k a r ≡ answered b → ReadOff k a r b
   unfolding concluded ending trial_count
@@ -45,11 +45,11 @@ module _ (P : Trial → Run → Type 0) where
   read_off k a (last t r) b h e c =
       let i = read_off (suc k) (answer t.lambda t.norm (suc k) t.step) r b refl e.1 c in
       let n = i.count in
-      record { stop = i.stop; ends = i.ends; count = omega arith; of = inr (was-last (suc k) t r b i.stop e.0 i.of) }
+      record { stop = i.stop; ends = i.ends; count = omega arith; of = inr (was_last (suc k) t r b i.stop e.0 i.of) }
   read_off k a (trial t fp r) b h e c =
       let i = read_off (suc k) (answer t.lambda t.norm (suc k) t.step) r b refl e.1 c in
       let n = i.count in
-      record { stop = i.stop; ends = i.ends; count = omega arith; of = inr (was-last (suc k) t r b i.stop e.0 i.of) }
+      record { stop = i.stop; ends = i.ends; count = omega arith; of = inr (was_last (suc k) t r b i.stop e.0 i.of) }
 
 -- ---- an answered search
 
@@ -82,9 +82,9 @@ module _ (p : Problem) (rf : is_finite p.radius ≡ true) (ra : le p.radius plus
   abbrev before : Answer
   before = answer plus_zero (scaled_norm p (undamped_step p)) 0 (undamped_step p)
 
-  undamped-answer : (b : Answer) → is_finite (scaled_norm p (undamped_step p)) ≡ true → le (undampedFp p initial) (band p.radius) ≡ true → b ≡ before → Answered p (stopped undamped) b
+  undamped_answer : (b : Answer) → is_finite (scaled_norm p (undamped_step p)) ≡ true → le (undamped_fp p initial) (band p.radius) ≡ true → b ≡ before → Answered p (stopped undamped) b
   unfolding ending trial_count is_finite
-  undamped-answer b f w e = rw e (record {
+  undamped_answer b f w e = rw e (record {
     lambda_finite = refl;
     norm_finite = f;
     norm_is = refl;
@@ -92,7 +92,7 @@ module _ (p : Problem) (rf : is_finite p.radius ≡ true) (ra : le p.radius plus
     by_rule = inl (record { taken = w; lambda_zero = refl; no_trial = refl; step_is = refl; stopped_by = refl });
   })
 
-  by_last : (r : Run) (b : Answer) → le (undampedFp p initial) (band p.radius) ≡ false → (x : Stop) → ending r ≡ inl x → b.0.trials ≡ trial_count r → Counted 9 b.0.trials x → Last (Good p) x b → Answered p r b
+  by_last : (r : Run) (b : Answer) → le (undamped_fp p initial) (band p.radius) ≡ false → (x : Stop) → ending r ≡ inl x → b.0.trials ≡ trial_count r → Counted 9 b.0.trials x → Last (Good p) x b → Answered p r b
   unfolding ending
   by_last r b w x e n c l =
       let t = l.0 in
@@ -114,26 +114,26 @@ module _ (p : Problem) (rf : is_finite p.radius ≡ true) (ra : le p.radius plus
         });
       })
 
-  damped-answer : (b : Answer) → le (undampedFp p initial) (band p.radius) ≡ false → ReadOff (Good p) 0 before (trials_from p 9 (first p initial)) b → Answered p (trials_from p 9 (first p initial)) b
-  damped-answer b w h =
+  damped_answer : (b : Answer) → le (undamped_fp p initial) (band p.radius) ≡ false → ReadOff (Good p) 0 before (trials_from p 9 (first p initial)) b → Answered p (trials_from p 9 (first p initial)) b
+  damped_answer b w h =
       let s = first p initial in
       let n = h.count in
       let c = subst (λ (i : ℕ). Counted 9 i h.stop) (let z : trial_count (trials_from p 9 s) ≡ b.0.trials = omega arith in z) (each_counted p 9 s h.stop h.ends) in
-      by_last (trials_from p 9 s) b w h.stop h.ends (omega arith) c (only-last h.of)
+      by_last (trials_from p 9 s) b w h.stop h.ends (omega arith) c (only_last h.of)
     where
-      only-last : {x : Stop} → ((trials_from p 9 (first p initial) ≡ stopped x) × (b ≡ before)) ⊎ Last (Good p) x b → Last (Good p) x b
-      only-last {x} (inl q) = some_trial p 9 (first p initial) x q.0
-      only-last (inr q) = q
+      only_last : {x : Stop} → ((trials_from p 9 (first p initial) ≡ stopped x) × (b ≡ before)) ⊎ Last (Good p) x b → Last (Good p) x b
+      only_last {x} (inl q) = some_trial p 9 (first p initial) x q.0
+      only_last (inr q) = q
 
   -- LAW
-  pub answered-rules : (b : Answer) → answer_of p initial ≡ answered b → Answered p (run_of p initial) b
+  pub answered_rules : (b : Answer) → answer_of p initial ≡ answered b → Answered p (run_of p initial) b
   unfolding answer_of concluded
-  answered-rules b =
-      run-cases p initial (λ (r : Run). concluded 0 before r ≡ answered b → Answered p r b) (λ f c. refused-answered c)
-      (λ f w c. undamped-answer b f w (sym (answered-same c))) (λ c. refused-answered c) (λ c. refused-answered c)
-      (λ f w l c. damped-answer b w (read_off (Good p) 0 before _ b refl (each_good p 9 (first p initial) (first-sound p rf ra initial (undamped_step p) (undampedFp p initial) hi w l)) c))
+  answered_rules b =
+      run_cases p initial (λ (r : Run). concluded 0 before r ≡ answered b → Answered p r b) (λ f c. refused-answered c)
+      (λ f w c. undamped_answer b f w (sym (answered-same c))) (λ c. refused-answered c) (λ c. refused-answered c)
+      (λ f w l c. damped_answer b w (read_off (Good p) 0 before _ b refl (each_good p 9 (first p initial) (first_sound p rf ra initial (undamped_step p) (undamped_fp p initial) hi w l)) c))
 
 -- LAW: a run, answered or not, that begins with a trial stops only where its rule holds
-pub rules_hold : (p : Problem) (initial : Float) → le (undampedFp p initial) (band p.radius) ≡ false → RuledFrom p (undampedFp p initial) (run_of p initial)
+pub rules_hold : (p : Problem) (initial : Float) → le (undamped_fp p initial) (band p.radius) ≡ false → RuledFrom p (undamped_fp p initial) (run_of p initial)
 rules_hold p initial w =
-    run-cases p initial (RuledFrom p (undampedFp p initial)) (λ f. tt) (λ f v. absurd (true≢false (sym v ∙ w))) tt tt (λ f v l. each_ruled p 9 (first p initial))
+    run_cases p initial (RuledFrom p (undamped_fp p initial)) (λ f. tt) (λ f v. absurd (true≢false (sym v ∙ w))) tt tt (λ f v l. each_ruled p 9 (first p initial))

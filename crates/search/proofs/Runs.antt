@@ -20,17 +20,17 @@ module _ (p : Problem) (s : Next) where
   abbrev pub this : Trial
   this = trial_of p s
 
-  abbrev pub fpOf : Float
-  fpOf = sub binary64 this.norm p.radius
+  abbrev pub fp_of : Float
+  fp_of = sub binary64 this.norm p.radius
 
   abbrev pub corrected : Float
-  corrected = newton fpOf p.radius (damped_slope p this.lambda this.step)
+  corrected = newton fp_of p.radius (damped_slope p this.lambda this.step)
 
-  last-cases : (P : Run → Type 0) → (is_finite this.lambda ≡ false → P (run.refused trial_lambda))
+  last_cases : (P : Run → Type 0) → (is_finite this.lambda ≡ false → P (run.refused trial_lambda))
       → (is_finite this.lambda ≡ true → is_finite this.norm ≡ false → P (last this (run.refused trial_norm)))
       → (is_finite this.lambda ≡ true → is_finite this.norm ≡ true → P (last this (stopped ten))) → P (trials_from p 0 s)
   unfolding trials_from
-  last-cases P a b c = by (is_finite this.lambda) refl (is_finite this.norm) refl
+  last_cases P a b c = by (is_finite this.lambda) refl (is_finite this.norm) refl
     where
       by : (x : Bool) → is_finite this.lambda ≡ x → (y : Bool) → is_finite this.norm ≡ y
           → P (elim x [ true ↦ last this (elim y [ true ↦ stopped ten | false ↦ run.refused trial_norm ]) | false ↦ run.refused trial_lambda ])
@@ -38,24 +38,24 @@ module _ (p : Problem) (s : Next) where
       by true e false f = b e f
       by true e true f = c e f
 
-  pub turn-cases : (k : ℕ) (P : Run → Type 0) → (is_finite this.lambda ≡ false → P (run.refused trial_lambda))
+  pub turn_cases : (k : ℕ) (P : Run → Type 0) → (is_finite this.lambda ≡ false → P (run.refused trial_lambda))
       → (is_finite this.lambda ≡ true → is_finite this.norm ≡ false → P (last this (run.refused trial_norm)))
-      → (is_finite this.lambda ≡ true → is_finite this.norm ≡ true → is_within p fpOf ≡ true → P (trial this fpOf (stopped within)))
-      → (is_finite this.lambda ≡ true → is_finite this.norm ≡ true → is_falling s fpOf ≡ true → P (trial this fpOf (stopped falling)))
-      → (is_finite this.lambda ≡ true → is_finite this.norm ≡ true → P (trial this fpOf (run.refused correction)))
-      → (is_finite this.lambda ≡ true → is_finite this.norm ≡ true → P (trial this fpOf (trials_from p k (next this fpOf corrected)))) → P (trials_from p (suc k) s)
+      → (is_finite this.lambda ≡ true → is_finite this.norm ≡ true → is_within p fp_of ≡ true → P (trial this fp_of (stopped within)))
+      → (is_finite this.lambda ≡ true → is_finite this.norm ≡ true → is_falling s fp_of ≡ true → P (trial this fp_of (stopped falling)))
+      → (is_finite this.lambda ≡ true → is_finite this.norm ≡ true → P (trial this fp_of (run.refused correction)))
+      → (is_finite this.lambda ≡ true → is_finite this.norm ≡ true → P (trial this fp_of (trials_from p k (next this fp_of corrected)))) → P (trials_from p (suc k) s)
   unfolding trials_from
-  turn-cases k P a b c d g h = by (is_finite this.lambda) refl (is_finite this.norm) refl (is_within p fpOf) refl (is_falling s fpOf) refl (is_finite corrected)
+  turn_cases k P a b c d g h = by (is_finite this.lambda) refl (is_finite this.norm) refl (is_within p fp_of) refl (is_falling s fp_of) refl (is_finite corrected)
     where
       rest : Run
-      rest = trials_from p k (next this fpOf corrected)
+      rest = trials_from p k (next this fp_of corrected)
 
-      by : (x : Bool) → is_finite this.lambda ≡ x → (y : Bool) → is_finite this.norm ≡ y → (z : Bool) → is_within p fpOf ≡ z → (v : Bool) → is_falling s fpOf ≡ v → (w : Bool)
+      by : (x : Bool) → is_finite this.lambda ≡ x → (y : Bool) → is_finite this.norm ≡ y → (z : Bool) → is_within p fp_of ≡ z → (v : Bool) → is_falling s fp_of ≡ v → (w : Bool)
           → P (elim x [
             | false ↦ run.refused trial_lambda
             | true ↦ elim y [
               | false ↦ last this (run.refused trial_norm)
-              | true ↦ trial this fpOf (elim z [
+              | true ↦ trial this fp_of (elim z [
                 | true ↦ stopped within
                 | false ↦ elim v [ true ↦ stopped falling | false ↦ elim w [ true ↦ rest | false ↦ run.refused correction ] ]
               ])
@@ -69,28 +69,28 @@ module _ (p : Problem) (s : Next) where
       by true e true f false i false j false = g e f
 
 module _ (p : Problem) (initial : Float) where
-  abbrev pub undampedFp : Float
-  undampedFp = sub binary64 (scaled_norm p (undamped_step p)) p.radius
+  abbrev pub undamped_fp : Float
+  undamped_fp = sub binary64 (scaled_norm p (undamped_step p)) p.radius
 
   abbrev pub lower : Float
-  lower = lower_bound_of p (undamped_step p) undampedFp
+  lower = lower_bound_of p (undamped_step p) undamped_fp
 
   abbrev pub first : Next
   first =
       let upper = upper_bound (gnorm p) p.radius in
-      record { lambda = first_lambda initial lower upper (gnorm p) (scaled_norm p (undamped_step p)); lower = lower; upper = upper; fp = undampedFp }
+      record { lambda = first_lambda initial lower upper (gnorm p) (scaled_norm p (undamped_step p)); lower = lower; upper = upper; fp = undamped_fp }
 
-  pub run-cases : (P : Run → Type 0) → (is_finite (scaled_norm p (undamped_step p)) ≡ false → P (run.refused undamped_norm))
-      → (is_finite (scaled_norm p (undamped_step p)) ≡ true → le undampedFp (band p.radius) ≡ true → P (stopped undamped))
+  pub run_cases : (P : Run → Type 0) → (is_finite (scaled_norm p (undamped_step p)) ≡ false → P (run.refused undamped_norm))
+      → (is_finite (scaled_norm p (undamped_step p)) ≡ true → le undamped_fp (band p.radius) ≡ true → P (stopped undamped))
       → P (run.refused lower_bound) → P (run.refused gradient_norm)
-      → (is_finite (scaled_norm p (undamped_step p)) ≡ true → le undampedFp (band p.radius) ≡ false → is_finite lower ≡ true → P (trials_from p 9 first)) → P (run_of p initial)
+      → (is_finite (scaled_norm p (undamped_step p)) ≡ true → le undamped_fp (band p.radius) ≡ false → is_finite lower ≡ true → P (trials_from p 9 first)) → P (run_of p initial)
   unfolding run_of
-  run-cases P a b c d h = by (is_finite (scaled_norm p (undamped_step p))) refl (le undampedFp (band p.radius)) refl (is_finite lower) refl (is_finite (gnorm p))
+  run_cases P a b c d h = by (is_finite (scaled_norm p (undamped_step p))) refl (le undamped_fp (band p.radius)) refl (is_finite lower) refl (is_finite (gnorm p))
     where
       rest : Run
       rest = trials_from p 9 first
 
-      by : (x : Bool) → is_finite (scaled_norm p (undamped_step p)) ≡ x → (y : Bool) → le undampedFp (band p.radius) ≡ y → (z : Bool) → is_finite lower ≡ z → (w : Bool)
+      by : (x : Bool) → is_finite (scaled_norm p (undamped_step p)) ≡ x → (y : Bool) → le undamped_fp (band p.radius) ≡ y → (z : Bool) → is_finite lower ≡ z → (w : Bool)
           → P (elim x [
             | false ↦ run.refused undamped_norm
             | true ↦ elim y [
@@ -131,8 +131,8 @@ head (last t r) = 4
 head (trial t fp r) = 4
 
 trials_head : (p : Problem) (k : ℕ) (s : Next) → head (trials_from p k s) ≡ 4
-trials_head p zero s = last-cases p s (λ (r : Run). head r ≡ 4) (λ a. refl) (λ a b. refl) (λ a b. refl)
-trials_head p (suc k) s = turn-cases p s k (λ (r : Run). head r ≡ 4) (λ a. refl) (λ a b. refl) (λ a b c. refl) (λ a b c. refl) (λ a b. refl) (λ a b. refl)
+trials_head p zero s = last_cases p s (λ (r : Run). head r ≡ 4) (λ a. refl) (λ a b. refl) (λ a b. refl)
+trials_head p (suc k) s = turn_cases p s k (λ (r : Run). head r ≡ 4) (λ a. refl) (λ a b. refl) (λ a b c. refl) (λ a b c. refl) (λ a b. refl) (λ a b. refl)
 
 -- a run of trials does not stop before its first
 pub some_trial : {X : Type 0} (p : Problem) (k : ℕ) (s : Next) (x : Stop) → trials_from p k s ≡ stopped x → X
@@ -155,29 +155,29 @@ no_stop q x e = absurd (true≢false (sym (ap stops e)))
     stops (inr q) = false
 
 good : (p : Problem) (s : Next) (rest : Run) → Sound s → is_finite (trial_of p s).lambda ≡ true → ((x : Stop) → ending rest ≡ inl x → is_finite (trial_of p s).norm ≡ true)
-    → (rest ≡ stopped within → is_within p (fpOf p s) ≡ true) → Good p (trial_of p s) rest
+    → (rest ≡ stopped within → is_within p (fp_of p s) ≡ true) → Good p (trial_of p s) rest
 unfolding trial_of
 good p s rest h f n w = record { lambda_finite = f; lambda_above = trial_above s h f; step_is = refl; norm_is = refl; norm_finite = n; by_within = w }
 
-sound_after : (p : Problem) (s : Next) → Sound s → is_finite (this p s).lambda ≡ true → Sound (next (this p s) (fpOf p s) (corrected p s))
+sound_after : (p : Problem) (s : Next) → Sound s → is_finite (this p s).lambda ≡ true → Sound (next (this p s) (fp_of p s) (corrected p s))
 unfolding trial_of
-sound_after p s h a = next_sound (this p s) (fpOf p s) (corrected p s) h.lower_clear h.lower_finite a (trial_above s h a)
+sound_after p s h a = next_sound (this p s) (fp_of p s) (corrected p s) h.lower_clear h.lower_finite a (trial_above s h a)
 
 -- LAW: each trial of a run is one, answered or not
 pub each_good : (p : Problem) (k : ℕ) (s : Next) → Sound s → EachTrial (Good p) (trials_from p k s)
 unfolding ending
 each_good p zero s h =
-    last-cases p s (EachTrial (Good p)) (λ a. tt)
+    last_cases p s (EachTrial (Good p)) (λ a. tt)
     (λ a b. (good p s _ h a (λ x e. no_stop trial_norm x e) (λ e. other_rule _ within e (λ z. omega arith)), tt))
     (λ a b. (good p s _ h a (λ x e. b) (λ e. other_rule _ within e (λ z. omega arith)), tt))
 each_good p (suc k) s h =
-    turn-cases p s k (EachTrial (Good p)) (λ a. tt)
+    turn_cases p s k (EachTrial (Good p)) (λ a. tt)
     (λ a b. (good p s _ h a (λ x e. no_stop trial_norm x e) (λ e. other_rule _ within e (λ z. omega arith)), tt))
     (λ a b c. (good p s _ h a (λ x e. b) (λ e. c), tt))
     (λ a b c. (good p s _ h a (λ x e. b) (λ e. other_rule _ within e (λ z. omega arith)), tt))
     (λ a b. (good p s _ h a (λ x e. b) (λ e. other_rule _ within e (λ z. omega arith)), tt))
     (λ a b.
-    let n = next (this p s) (fpOf p s) (corrected p s) in
+    let n = next (this p s) (fp_of p s) (corrected p s) in
     let z = trials_head p k n in (
       good p s _ h a (λ x e. b) (λ e. other_rule _ within e (λ y. omega arith)),
       each_good p k n (sound_after p s h a),
@@ -204,10 +204,10 @@ stop-same x y e = cc
 pub each_counted : (p : Problem) (k : ℕ) (s : Next) (x : Stop) → ending (trials_from p k s) ≡ inl x → Counted k (trial_count (trials_from p k s)) x
 unfolding ending trial_count
 each_counted p zero s x =
-    last-cases p s (λ (r : Run). ending r ≡ inl x → Counted 0 (trial_count r) x) (λ a e. no_stop trial_lambda x e) (λ a b e. no_stop trial_norm x e)
+    last_cases p s (λ (r : Run). ending r ≡ inl x → Counted 0 (trial_count r) x) (λ a e. no_stop trial_lambda x e) (λ a b e. no_stop trial_norm x e)
     (λ a b e. subst (λ (y : Stop). Counted 0 1 y) (stop-same ten x e) refl)
 each_counted p (suc k) s x =
-    turn-cases p s k (λ (r : Run). ending r ≡ inl x → Counted (suc k) (trial_count r) x) (λ a e. no_stop trial_lambda x e) (λ a b e. no_stop trial_norm x e)
+    turn_cases p s k (λ (r : Run). ending r ≡ inl x → Counted (suc k) (trial_count r) x) (λ a e. no_stop trial_lambda x e) (λ a b e. no_stop trial_norm x e)
     (λ a b c e. subst (λ (y : Stop). Counted (suc k) 1 y) (stop-same within x e) (omega arith, omega arith))
     (λ a b c e. subst (λ (y : Stop). Counted (suc k) 1 y) (stop-same falling x e) (omega arith, omega arith))
     (λ a b e. no_stop correction x e)
@@ -233,15 +233,15 @@ fp_handed t fp c = by (is_negative fp)
 -- LAW: a run stops only where its rule holds
 pub each_ruled : (p : Problem) (k : ℕ) (s : Next) → RuledFrom p s.fp (trials_from p k s)
 unfolding is_within is_falling trial_of
-each_ruled p zero s = last-cases p s (RuledFrom p s.fp) (λ a. tt) (λ a b. tt) (λ a b. tt)
+each_ruled p zero s = last_cases p s (RuledFrom p s.fp) (λ a. tt) (λ a b. tt) (λ a b. tt)
 each_ruled p (suc k) s =
-    turn-cases p s k (RuledFrom p s.fp) (λ a. tt) (λ a b. tt) (λ a b c. c)
+    turn_cases p s k (RuledFrom p s.fp) (λ a. tt) (λ a b. tt) (λ a b c. c)
     (λ a b c.
-    let x = (and-eq-true_iff (eq s.lower plus_zero && le (fpOf p s) s.fp) (is_negative s.fp)).0 c in
-    let y = (and-eq-true_iff (eq s.lower plus_zero) (le (fpOf p s) s.fp)).0 x.0 in
+    let x = (and-eq-true_iff (eq s.lower plus_zero && le (fp_of p s) s.fp) (is_negative s.fp)).0 c in
+    let y = (and-eq-true_iff (eq s.lower plus_zero) (le (fp_of p s) s.fp)).0 x.0 in
     (y.0, (y.1, x.1)))
     (λ a b. tt)
     (λ a b.
-    let n = next (this p s) (fpOf p s) (corrected p s) in
-    later_ruled p (this p s) (fpOf p s) s.fp (trials_from p k n)
-    (subst (λ (f : Float). RuledFrom p f (trials_from p k n)) (fp_handed (this p s) (fpOf p s) (corrected p s)) (each_ruled p k n)))
+    let n = next (this p s) (fp_of p s) (corrected p s) in
+    later_ruled p (this p s) (fp_of p s) s.fp (trials_from p k n)
+    (subst (λ (f : Float). RuledFrom p f (trials_from p k n)) (fp_handed (this p s) (fp_of p s) (corrected p s)) (each_ruled p k n)))

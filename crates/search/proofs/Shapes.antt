@@ -19,7 +19,7 @@ use Rattle.factor.specs.Tests.{is_permutation}
 use Rattle.factor.specs.Solve.{scatter, gather, padded, rank, r_rank, zero_solved, backward, damped_solved}
 use Rattle.eliminate.specs.Eliminate.{Rows, cons, givens, turned, left, turned_all, left_all, rotated, started, onward, eliminated, rows_from, damping, tails}
 use Rattle.factor.specs.Held.{forward_upper, forward_lower, mul_upper}
-use Rattle.factor.proofs.Orders.{permutation-onto, scatter-at}
+use Rattle.factor.proofs.Orders.{permutation_onto, scatter_at}
 use Rattle.factor.proofs.Solves.{rank_most, gather-length}
 use Rattle.leaves.proofs.Products.{product-length}
 use Rattle.leaves.proofs.Squares.{diagonal-length}
@@ -49,8 +49,8 @@ scatter_fresh n order xs out old h long l a b =
     let e = scatter-length (take n order) xs out in
     let f = scatter-length (take n order) xs old in
     same-places (scatter (take n order) xs out) (scatter (take n order) xs old) (omega arith) (λ v p.
-    let q = permutation-onto n order h long v (omega arith) in
-    rw q.1.1 at (scatter-at n order xs out h long (omega arith) (omega arith) q.0 q.1.0 ∙ sym (scatter-at n order xs old h long (omega arith) (omega arith) q.0 q.1.0)))
+    let q = permutation_onto n order h long v (omega arith) in
+    rw q.1.1 at (scatter_at n order xs out h long (omega arith) (omega arith) q.0 q.1.0 ∙ sym (scatter_at n order xs old h long (omega arith) (omega arith) q.0 q.1.0)))
 
 -- ---- products laid out are the products of what is laid out
 product-set : (out diag : List Float) (o : ℕ) (x : Float) → product_all (set out o x) diag ≡ set (product_all out diag) o (mul binary64 x (get_or diag o nan))
@@ -167,12 +167,12 @@ rotated_even (suc k) (r ∷ rs) (b₁ ∷ bs) (l₁ ∷ ls) q t b l =
     let skipped = rotated rs bs ls q in
     let rotated' = rotated rs bs (left_all g (drop 1 r) ls) (left g b₁ q) in
     either (eq l₁ plus_zero) (cons r b₁ skipped) (cons row (turned g b₁ q) rotated')
-    (even-cons k r b₁ skipped t.0 (rotated_even k rs bs ls q t.1 (omega arith) (omega arith)))
-    (even-cons k row (turned g b₁ q) rotated' (omega arith)
+    (even_cons k r b₁ skipped t.0 (rotated_even k rs bs ls q t.1 (omega arith) (omega arith)))
+    (even_cons k row (turned g b₁ q) rotated' (omega arith)
     (rotated_even k rs bs (left_all g (drop 1 r) ls) (left g b₁ q) t.1 (omega arith) (omega arith)))
   where
-    even-cons : (k : ℕ) (row : List Float) (x : Float) (y : Rows) → length row ≡ suc k → Even k y → Even (suc k) (cons row x y)
-    even-cons k row x y h e = ((h, e.0), ap suc e.1)
+    even_cons : (k : ℕ) (row : List Float) (x : Float) (y : Rows) → length row ≡ suc k → Even k y → Even (suc k) (cons row x y)
+    even_cons k row x y h e = ((h, e.0), ap suc e.1)
 
     either : (z : Bool) (x y : Rows) → Even (suc k) x → Even (suc k) y → Even (suc k) (elim z [ true ↦ x | false ↦ y ])
     either true x y a b = a

@@ -51,30 +51,30 @@ next_sound t fp c p f g l =
         record { lambda_clear = max-above (max_of t.lower t.lambda) (add binary64 t.lambda c) n m; lower_clear = m; lower_finite = n }
 
 module _ (p : Problem) (rf : is_finite p.radius ≡ true) (ra : le p.radius plus_zero ≡ false) where
-  radius-sign : is_negative p.radius ≡ false
-  radius-sign = above_sign p.radius plus_zero refl ra
+  radius_sign : is_negative p.radius ≡ false
+  radius_sign = above_sign p.radius plus_zero refl ra
 
   newton-clear : (fp slope : Float) → Clear fp → Clear (newton fp p.radius slope)
   unfolding newton
-  newton-clear fp slope h = over_twice false (div binary64 fp p.radius) slope (over_clear fp p.radius radius-sign h)
+  newton-clear fp slope h = over_twice false (div binary64 fp p.radius) slope (over_clear fp p.radius radius_sign h)
 
   -- where the undamped step is not taken
-  fp-clear : (fp : Float) → le fp (band p.radius) ≡ false → Clear fp
+  fp_clear : (fp : Float) → le fp (band p.radius) ≡ false → Clear fp
   unfolding band
-  fp-clear fp h =
-      not_at_most fp (mul binary64 p.radius tenth) (rw tenth_is (times_signed p.radius 3602879701896397 (negsuc 54) rf radius-sign)) h
+  fp_clear fp h =
+      not_at_most fp (mul binary64 p.radius tenth) (rw tenth_is (times_signed p.radius 3602879701896397 (negsuc 54) rf radius_sign)) h
 
-  lower-not-below : (step : List Float) (fp : Float) → Clear fp → Clear (lower_bound_of p step fp)
+  lower_not_below : (step : List Float) (fp : Float) → Clear fp → Clear (lower_bound_of p step fp)
   unfolding lower_bound_of
-  lower-not-below step fp h = arms Clear (non_singular_of p.m (length p.upper) p.upper) {x = newton fp p.radius (undamped_slope p step)} {y = plus_zero} (newton-clear fp _ h) (inl refl)
+  lower_not_below step fp h = arms Clear (non_singular_of p.m (length p.upper) p.upper) {x = newton fp p.radius (undamped_slope p step)} {y = plus_zero} (newton-clear fp _ h) (inl refl)
 
   gnorm-clear : Clear (gnorm p)
   unfolding gnorm
   gnorm-clear = not_below (gnorm p) (norm_not_negative _)
 
-  tenth-sign : is_negative tenth ≡ false
+  tenth_sign : is_negative tenth ≡ false
   unfolding is_negative
-  tenth-sign = rw tenth_is
+  tenth_sign = rw tenth_is
 
   dwarf-clear : Clear dwarf
   unfolding dwarf
@@ -84,25 +84,25 @@ module _ (p : Problem) (rf : is_finite p.radius ≡ true) (ra : le p.radius plus
   unfolding upper_bound
   upper-clear g h =
       arms Clear (eq (div binary64 g p.radius) plus_zero) {x = div binary64 dwarf (min_of p.radius tenth)} {y = div binary64 g p.radius}
-      (over_clear dwarf (min_of p.radius tenth) (min_sign p.radius tenth radius-sign tenth-sign) dwarf-clear) (over_clear g p.radius radius-sign h)
+      (over_clear dwarf (min_of p.radius tenth) (min_sign p.radius tenth radius_sign tenth_sign) dwarf-clear) (over_clear g p.radius radius_sign h)
 
-  first-clear : (initial lower upper g n : Float) → Clear initial → Clear lower → Clear upper → Clear g → Clear n → Clear (first_lambda initial lower upper g n)
+  first_clear : (initial lower upper g n : Float) → Clear initial → Clear lower → Clear upper → Clear g → Clear n → Clear (first_lambda initial lower upper g n)
   unfolding first_lambda
-  first-clear initial lower upper g n hi hl hu hg hn =
+  first_clear initial lower upper g n hi hl hu hg hn =
       let l = min_of (max_of initial lower) upper in
       arms Clear (eq l plus_zero) {x = div binary64 g n} {y = l} (over_norm g n hg hn) (min-clear (max_of initial lower) upper (max-clear initial lower hi hl) hu)
 
   -- LAW: what the first trial is handed
-  pub first-sound : (initial : Float) (step : List Float) (fp : Float) → lt initial plus_zero ≡ false → le fp (band p.radius) ≡ false → is_finite (lower_bound_of p step fp) ≡ true
+  pub first_sound : (initial : Float) (step : List Float) (fp : Float) → lt initial plus_zero ≡ false → le fp (band p.radius) ≡ false → is_finite (lower_bound_of p step fp) ≡ true
       → (let lower = lower_bound_of p step fp in
       let g = gnorm p in
       let upper = upper_bound g p.radius in
       Sound (record { lambda = first_lambda initial lower upper g (scaled_norm p step); lower = lower; upper = upper; fp = fp }))
-  first-sound initial step fp hi h f =
-      let l = lower-not-below step fp (fp-clear fp h) in
+  first_sound initial step fp hi h f =
+      let l = lower_not_below step fp (fp_clear fp h) in
       let n : Clear (scaled_norm p step) = not_below (scaled_norm p step) (norm_not_negative _) in
       record {
-        lambda_clear = first-clear initial (lower_bound_of p step fp) (upper_bound (gnorm p) p.radius) (gnorm p) (scaled_norm p step) (not_below initial hi) l (upper-clear (gnorm p) gnorm-clear) gnorm-clear n;
+        lambda_clear = first_clear initial (lower_bound_of p step fp) (upper_bound (gnorm p) p.radius) (gnorm p) (scaled_norm p step) (not_below initial hi) l (upper-clear (gnorm p) gnorm-clear) gnorm-clear n;
         lower_clear = l;
         lower_finite = f;
       }

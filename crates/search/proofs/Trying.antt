@@ -43,11 +43,11 @@ by_ten u ha hb = rw (ha, hb)
 
 -- fp and the correction after a trial
 module _ (p : Problem) (s : Next) where
-  abbrev fpAfter : Float
-  fpAfter = sub binary64 (trial_of p s).norm p.radius
+  abbrev fp_after : Float
+  fp_after = sub binary64 (trial_of p s).norm p.radius
 
-  abbrev correctionAfter : Float
-  correctionAfter = newton fpAfter p.radius (damped_slope p (trial_of p s).lambda (trial_of p s).step)
+  abbrev correction_after : Float
+  correction_after = newton fp_after p.radius (damped_slope p (trial_of p s).lambda (trial_of p s).step)
 
 -- ---- a run of trials does not begin with its stop
 tested_unless : (u : Trial) (fp : Float) (rest : Run) (vs : List (List Float)) (a b c d e : Bool) → unless_stopped (tested u fp rest a b c d e) vs ≡ vs
@@ -66,8 +66,8 @@ unfolding trials_from
 trials_unless p zero s vs = ten_unless _ _ vs (is_finite (trial_of p s).lambda)
 trials_unless p (suc k) s vs =
     let u = trial_of p s in
-    let fp = fpAfter p s in
-    let c = correctionAfter p s in
+    let fp = fp_after p s in
+    let c = correction_after p s in
     tested_unless u fp (trials_from p k (next u fp c)) vs (is_finite u.lambda) (is_finite u.norm) (is_within p fp) (is_falling s fp) (is_finite c)
 
 module _ (p : Problem) (s : Next) (t : ℕ) (a : Answer) where
@@ -76,7 +76,7 @@ module _ (p : Problem) (s : Next) (t : ℕ) (a : Answer) where
 
   -- the trial's lambda, its step, the scaled norm
   pub record Tried (lambda : Float) (step : List Float) (norm : Float) : Type 0 where
-    pub lambda-is : lambda ≡ raised s.lambda s.upper
+    pub lambda_is : lambda ≡ raised s.lambda s.upper
     pub step_is : step ≡ damped_step p lambda
     pub norm_is : norm ≡ scaled_norm p step
 
@@ -90,84 +90,84 @@ module _ (p : Problem) (s : Next) (t : ℕ) (a : Answer) where
   abbrev Stopped : ℕ → Float → List Float → Float → Type 0
   Stopped k lambda step norm = (from k ≡ answered (told lambda step norm)) × (measured_trials p (trials_from p k s) ≡ scaled_step p step ∷ [])
 
-  last-stopped : (k : ℕ) (lambda : Float) (step : List Float) (norm : Float) (x : Stop) → trials_from p k s ≡ last (mine lambda step norm) (stopped x) → Stopped k lambda step norm
+  last_stopped : (k : ℕ) (lambda : Float) (step : List Float) (norm : Float) (x : Stop) → trials_from p k s ≡ last (mine lambda step norm) (stopped x) → Stopped k lambda step norm
   unfolding concluded measured_trials
-  last-stopped k lambda step norm x e = (ap (concluded t a) e, ap (measured_trials p) e)
+  last_stopped k lambda step norm x e = (ap (concluded t a) e, ap (measured_trials p) e)
 
-  trial-stopped : (k : ℕ) (lambda : Float) (step : List Float) (norm fp : Float) (x : Stop) → trials_from p k s ≡ trial (mine lambda step norm) fp (stopped x) → Stopped k lambda step norm
+  trial_stopped : (k : ℕ) (lambda : Float) (step : List Float) (norm fp : Float) (x : Stop) → trials_from p k s ≡ trial (mine lambda step norm) fp (stopped x) → Stopped k lambda step norm
   unfolding concluded measured_trials unless_stopped
-  trial-stopped k lambda step norm fp x e = (ap (concluded t a) e, ap (measured_trials p) e)
+  trial_stopped k lambda step norm fp x e = (ap (concluded t a) e, ap (measured_trials p) e)
 
-  trial-is : {lambda : Float} {step : List Float} {norm : Float} → Tried lambda step norm → trial_of p s ≡ mine lambda step norm
+  trial_is : {lambda : Float} {step : List Float} {norm : Float} → Tried lambda step norm → trial_of p s ≡ mine lambda step norm
   unfolding trial_of
-  trial-is h = rw (h.norm_is, h.step_is, h.lambda-is)
+  trial_is h = rw (h.norm_is, h.step_is, h.lambda_is)
 
   -- ---- refused 8
-  pub at-lambda : (k : ℕ) {lambda : Float} → lambda ≡ raised s.lambda s.upper → is_finite lambda ≡ false → from k ≡ refused 8
+  pub at_lambda : (k : ℕ) {lambda : Float} → lambda ≡ raised s.lambda s.upper → is_finite lambda ≡ false → from k ≡ refused 8
   unfolding trials_from concluded trial_of
-  at-lambda zero e h = rw (rw e at h, concluded)
-  at-lambda (suc k) e h = rw (rw e at h, concluded)
+  at_lambda zero e h = rw (rw e at h, concluded)
+  at_lambda (suc k) e h = rw (rw e at h, concluded)
 
   module _ {lambda : Float} {step : List Float} {norm : Float} (h : Tried lambda step norm) (f : is_finite lambda ≡ true) where
     abbrev lambda_finite : is_finite (trial_of p s).lambda ≡ true
-    lambda_finite = rw (trial-is h) f
+    lambda_finite = rw (trial_is h) f
 
-    pub at-norm : (k : ℕ) → is_finite norm ≡ false → from k ≡ refused 8
+    pub at_norm : (k : ℕ) → is_finite norm ≡ false → from k ≡ refused 8
     unfolding trials_from concluded
-    at-norm zero n = let g : is_finite (trial_of p s).norm ≡ false = rw (trial-is h) n in rw (lambda_finite, g, concluded)
-    at-norm (suc k) n = let g : is_finite (trial_of p s).norm ≡ false = rw (trial-is h) n in rw (lambda_finite, g, concluded)
+    at_norm zero n = let g : is_finite (trial_of p s).norm ≡ false = rw (trial_is h) n in rw (lambda_finite, g, concluded)
+    at_norm (suc k) n = let g : is_finite (trial_of p s).norm ≡ false = rw (trial_is h) n in rw (lambda_finite, g, concluded)
 
     module _ (n : is_finite norm ≡ true) where
       abbrev norm_finite : is_finite (trial_of p s).norm ≡ true
-      norm_finite = rw (trial-is h) n
+      norm_finite = rw (trial_is h) n
 
       -- ---- trial ten
-      pub at-ten : Stopped 0 lambda step norm
+      pub at_ten : Stopped 0 lambda step norm
       unfolding trials_from
-      at-ten = last-stopped 0 lambda step norm ten (by_ten (trial_of p s) lambda_finite norm_finite ∙ ap (λ (u : Trial). last u (stopped ten)) (trial-is h))
+      at_ten = last_stopped 0 lambda step norm ten (by_ten (trial_of p s) lambda_finite norm_finite ∙ ap (λ (u : Trial). last u (stopped ten)) (trial_is h))
 
       -- ---- before trial ten
       module _ (k : ℕ) {fp : Float} (e : fp ≡ sub binary64 norm p.radius) where
-        abbrev fp-is : fpAfter p s ≡ fp
-        fp-is = rw (trial-is h) (sym e)
+        abbrev fp_is : fp_after p s ≡ fp
+        fp_is = rw (trial_is h) (sym e)
 
         abbrev after : Run
-        after = trials_from p k (next (trial_of p s) (fpAfter p s) (correctionAfter p s))
+        after = trials_from p k (next (trial_of p s) (fp_after p s) (correction_after p s))
 
-        pub at-within : le (abs_of fp) (band p.radius) ≡ true → Stopped (suc k) lambda step norm
+        pub at_within : le (abs_of fp) (band p.radius) ≡ true → Stopped (suc k) lambda step norm
         unfolding trials_from is_within
-        at-within w =
-            let w' : le (abs_of (fpAfter p s)) (band p.radius) ≡ true = rw fp-is w in
-            trial-stopped (suc k) lambda step norm (fpAfter p s) within
-            (by_within (trial_of p s) (fpAfter p s) after (is_falling s (fpAfter p s)) (is_finite (correctionAfter p s)) lambda_finite norm_finite w'
-            ∙ ap (λ (u : Trial). trial u (fpAfter p s) (stopped within)) (trial-is h))
+        at_within w =
+            let w' : le (abs_of (fp_after p s)) (band p.radius) ≡ true = rw fp_is w in
+            trial_stopped (suc k) lambda step norm (fp_after p s) within
+            (by_within (trial_of p s) (fp_after p s) after (is_falling s (fp_after p s)) (is_finite (correction_after p s)) lambda_finite norm_finite w'
+            ∙ ap (λ (u : Trial). trial u (fp_after p s) (stopped within)) (trial_is h))
 
         module _ (w : le (abs_of fp) (band p.radius) ≡ false) where
-          abbrev outside : le (abs_of (fpAfter p s)) (band p.radius) ≡ false
-          outside = rw fp-is w
+          abbrev outside : le (abs_of (fp_after p s)) (band p.radius) ≡ false
+          outside = rw fp_is w
 
-          pub at-falling : is_falling s fp ≡ true → Stopped (suc k) lambda step norm
+          pub at_falling : is_falling s fp ≡ true → Stopped (suc k) lambda step norm
           unfolding trials_from is_within
-          at-falling l =
-              let l' : is_falling s (fpAfter p s) ≡ true = rw fp-is l in
-              trial-stopped (suc k) lambda step norm (fpAfter p s) falling
-              (by_falling (trial_of p s) (fpAfter p s) after (is_finite (correctionAfter p s)) lambda_finite norm_finite outside l'
-              ∙ ap (λ (u : Trial). trial u (fpAfter p s) (stopped falling)) (trial-is h))
+          at_falling l =
+              let l' : is_falling s (fp_after p s) ≡ true = rw fp_is l in
+              trial_stopped (suc k) lambda step norm (fp_after p s) falling
+              (by_falling (trial_of p s) (fp_after p s) after (is_finite (correction_after p s)) lambda_finite norm_finite outside l'
+              ∙ ap (λ (u : Trial). trial u (fp_after p s) (stopped falling)) (trial_is h))
 
           module _ (l : is_falling s fp ≡ false) {c : Float} (q : c ≡ newton fp p.radius (damped_slope p lambda step)) where
-            abbrev not_falling : is_falling s (fpAfter p s) ≡ false
-            not_falling = rw fp-is l
+            abbrev not_falling : is_falling s (fp_after p s) ≡ false
+            not_falling = rw fp_is l
 
-            abbrev correction_is : correctionAfter p s ≡ c
-            correction_is = rw (fp-is, trial-is h) (sym q)
+            abbrev correction_is : correction_after p s ≡ c
+            correction_is = rw (fp_is, trial_is h) (sym q)
 
-            pub at-correction : is_finite c ≡ false → from (suc k) ≡ refused 8
+            pub at_correction : is_finite c ≡ false → from (suc k) ≡ refused 8
             unfolding trials_from concluded is_within
-            at-correction g =
-                let g' : is_finite (correctionAfter p s) ≡ false = rw correction_is g in
+            at_correction g =
+                let g' : is_finite (correction_after p s) ≡ false = rw correction_is g in
                 rw (lambda_finite, norm_finite, outside, not_falling, g', concluded)
 
-            turned : is_finite (correctionAfter p s) ≡ true → trials_from p (suc k) s ≡ trial (trial_of p s) (fpAfter p s) after
+            turned : is_finite (correction_after p s) ≡ true → trials_from p (suc k) s ≡ trial (trial_of p s) (fp_after p s) after
             unfolding trials_from is_within
             turned g = by_tests _ _ _ lambda_finite norm_finite outside not_falling g
 
@@ -176,8 +176,8 @@ module _ (p : Problem) (s : Next) (t : ℕ) (a : Answer) where
 
             run_on : is_finite c ≡ true → trials_from p (suc k) s ≡ trial (mine lambda step norm) fp rest
             run_on g =
-                let g' : is_finite (correctionAfter p s) ≡ true = rw correction_is g in
-                turned g' ∙ rw (correction_is, fp-is, trial-is h)
+                let g' : is_finite (correction_after p s) ≡ true = rw correction_is g in
+                turned g' ∙ rw (correction_is, fp_is, trial_is h)
 
             pub goes_on : is_finite c ≡ true
                 → (from (suc k) ≡ concluded (suc t) (told lambda step norm) rest)
@@ -196,18 +196,18 @@ module _ (t : ℕ) (a b : Answer) where
   tested-any u fp rest true false x y z = refl
   tested-any u fp rest true true x y z = refl
 
-  ten-any : (u : Trial) (rest : Run) (v : Bool) → concluded t a (elim v [ true ↦ last u rest | false ↦ run.refused trial_lambda ]) ≡ concluded t b (elim v [ true ↦ last u rest | false ↦ run.refused trial_lambda ])
+  ten_any : (u : Trial) (rest : Run) (v : Bool) → concluded t a (elim v [ true ↦ last u rest | false ↦ run.refused trial_lambda ]) ≡ concluded t b (elim v [ true ↦ last u rest | false ↦ run.refused trial_lambda ])
   unfolding concluded
-  ten-any u rest true = refl
-  ten-any u rest false = refl
+  ten_any u rest true = refl
+  ten_any u rest false = refl
 
-  pub any-answer : (p : Problem) (k : ℕ) (s : Next) → concluded t a (trials_from p k s) ≡ concluded t b (trials_from p k s)
+  pub any_answer : (p : Problem) (k : ℕ) (s : Next) → concluded t a (trials_from p k s) ≡ concluded t b (trials_from p k s)
   unfolding trials_from
-  any-answer p zero s = ten-any _ _ (is_finite (trial_of p s).lambda)
-  any-answer p (suc k) s =
+  any_answer p zero s = ten_any _ _ (is_finite (trial_of p s).lambda)
+  any_answer p (suc k) s =
       let u = trial_of p s in
-      let fp = fpAfter p s in
-      let c = correctionAfter p s in
+      let fp = fp_after p s in
+      let c = correction_after p s in
       tested-any u fp (trials_from p k (next u fp c)) (is_finite u.lambda) (is_finite u.norm) (is_within p fp) (is_falling s fp) (is_finite c)
 
 -- ---- the next turn, whose answer is read anew
@@ -215,7 +215,7 @@ pub again : (p : Problem) (t k : ℕ) (s r : Next) (u w : Trial) (fp c : Float) 
     → concluded t b (trials_from p (suc k) s) ≡ concluded (suc t) a (trials_from p k (next u fp c)) → next u fp c ≡ next w fp c → r ≡ next w fp c
     → concluded (t + 1) b (trials_from p k r) ≡ whole
 again p t k s r u w fp c a b h on e f =
-    rw (add-one, f) (any-answer (suc t) b a p k (next w fp c) ∙ ap (λ (x : Next). concluded (suc t) a (trials_from p k x)) (sym e) ∙ sym on ∙ h)
+    rw (add-one, f) (any_answer (suc t) b a p k (next w fp c) ∙ ap (λ (x : Next). concluded (suc t) a (trials_from p k x)) (sym e) ∙ sym on ∙ h)
 
 -- `next` reads lambda and bounds of a trial
 pub next_same : (u w : Trial) (fp c : Float) → u.lambda ≡ w.lambda → u.lower ≡ w.lower → u.upper ≡ w.upper → next u fp c ≡ next w fp c

@@ -113,13 +113,13 @@ ends_ten = refl
 abbrev norms : List Float → Float → List Float → Float → Float → ℕ
 norms row residual diag radius lambda = length (measured_by (asked row residual diag radius) lambda)
 
-pub norms-counted :
+pub norms_counted :
     (norms (w 1 ∷ []) (w 1) (w 1 ∷ []) (w 1) plus_zero ≡ 1)
     × (norms (w 1 ∷ []) (w 1) (w 2 ∷ []) (w 1) plus_zero ≡ 4)
     × (norms (w 1 ∷ w 1 ∷ []) (w 1) (w 2 ∷ w 1 ∷ []) (w 1) (w 1) ≡ 17)
     × (norms (w 1 ∷ w 1 ∷ []) (w 4) (w 4 ∷ w 1 ∷ []) (w 1) (dn 320) ≡ 21)
 unfolding opened
-norms-counted = (refl, refl, refl, refl)
+norms_counted = (refl, refl, refl, refl)
 
 -- what they saw: of a step of 10^20 and of one of 10^-25 taken undamped, and of a scaling so small that the scaled step is small and gnorm large
 abbrev saw : Float → Float → Float → Ranges

@@ -30,7 +30,7 @@ use Rattle.factor.proofs.Lends.{written_whole}
 use Rattle.factor.proofs.Orders.{permutation-below}
 use Rattle.factor.proofs.Solves.{gather-length}
 use Rattle.factor.proofs.Layouts.{load_shaped}
-use Rattle.factor.proofs.PivotOrders.{zero_in_passed, damped_in_passed, held-zero-in-passed, held-damped-in-passed, product-in-passed, full_rank_passed, empty_in_passed}
+use Rattle.factor.proofs.PivotOrders.{zero_in_passed, damped_in_passed, held_zero_in_passed, held_damped_in_passed, product_in_passed, full_rank_passed, empty_in_passed}
 use Rattle.search.specs.Problem.{Problem, placed, undamped_step, damped_rows, damped_step, scaled_step}
 use Rattle.search.specs.Search.{problem_of}
 use Rattle.search.specs.Bounds.{quotients}
@@ -70,41 +70,41 @@ module _ (st : State) (store : List Float) (order : List ℕ) (e : Ready st stor
   inside = ordered.room.sizes
 
   -- the workings' tests, with m among their sizes and without
-  whole-tests : (k : ℕ) → st.n ≤ k → tested st.m st.n store k ≡ 0
-  whole-tests k h = tests_passed st.m st.n store k inside sized h
+  whole_tests : (k : ℕ) → st.n ≤ k → tested st.m st.n store k ≡ 0
+  whole_tests k h = tests_passed st.m st.n store k inside sized h
 
   tests_at : (k : ℕ) → st.n ≤ k → tested 1 st.n store k ≡ 0
   tests_at k h = tests_passed 1 st.n store k (one_row inside) sized h
 
   -- ---- the calls that write w and read the store
   module _ (w : List Float) (long : length w ≡ st.n) where
-    out-is : (xs : List Float) {a : Reply (Unit {0})} {w' : List Float} → length xs ≡ st.n → read a w' ≡ read (answered tt) (written xs w) → w' ≡ xs
-    out-is xs l h = ap (λ (x : Read). x.out) h ∙ written_whole xs w (l ∙ sym long)
+    out_is : (xs : List Float) {a : Reply (Unit {0})} {w' : List Float} → length xs ≡ st.n → read a w' ≡ read (answered tt) (written xs w) → w' ≡ xs
+    out_is xs l h = ap (λ (x : Read). x.out) h ∙ written_whole xs w (l ∙ sym long)
 
-    front-is : take st.n w ≡ w
-    front-is = take_all st.n w (omega arith)
+    front_is : take st.n w ≡ w
+    front_is = take_all st.n w (omega arith)
 
-    pub zero-numbers : {a : Reply (Unit {0})} {w' : List Float} → read a w' ≡ zero_in st.m st.n store w → w' ≡ zero_solved st.m room.upper room.qtb
-    zero-numbers h =
+    pub zero_numbers : {a : Reply (Unit {0})} {w' : List Float} → read a w' ≡ zero_in st.m st.n store w → w' ≡ zero_solved st.m room.upper room.qtb
+    zero_numbers h =
         let z = shaped in
-        out-is _ (zero-length st.m room.upper room.qtb (z.upper_wide ∙ sym z.qtb_long) ∙ z.qtb_long) (h ∙ zero_in_passed st.m st.n store w (whole-tests (length w) (omega arith)))
+        out_is _ (zero-length st.m room.upper room.qtb (z.upper_wide ∙ sym z.qtb_long) ∙ z.qtb_long) (h ∙ zero_in_passed st.m st.n store w (whole_tests (length w) (omega arith)))
 
-    pub held-zero-numbers : {a : Reply (Unit {0})} {w' : List Float} → read a w' ≡ held_zero_in st.n store w → w' ≡ held_solved held.Zero w room
+    pub held_zero-numbers : {a : Reply (Unit {0})} {w' : List Float} → read a w' ≡ held_zero_in st.n store w → w' ≡ held_solved held.Zero w room
     unfolding held_solved
-    held-zero-numbers h =
-        out-is _ (rw front-is (upper-length room.upper w (shaped.upper_wide ∙ sym long) ∙ long)) (h ∙ held-zero-in-passed st.n store w (tests_at (length w) (omega arith)))
-        ∙ ap (λ (x : List Float). held_solved held.Zero x room) front-is
+    held_zero-numbers h =
+        out_is _ (rw front_is (upper-length room.upper w (shaped.upper_wide ∙ sym long) ∙ long)) (h ∙ held_zero_in_passed st.n store w (tests_at (length w) (omega arith)))
+        ∙ ap (λ (x : List Float). held_solved held.Zero x room) front_is
 
-    pub held-damped-numbers : {a : Reply (Unit {0})} {w' : List Float} → read a w' ≡ held_damped_in st.n store w → w' ≡ held_solved held.Damped w room
+    pub held_damped-numbers : {a : Reply (Unit {0})} {w' : List Float} → read a w' ≡ held_damped_in st.n store w → w' ≡ held_solved held.Damped w room
     unfolding held_solved
-    held-damped-numbers h =
+    held_damped-numbers h =
         let z = shaped in
-        out-is _ (rw front-is (lower-length room.ldiag room.below w (z.ldiag_long ∙ sym long) (z.below_wide ∙ sym long) ∙ long)) (h ∙ held-damped-in-passed st.n store w (tests_at (length w) (omega arith)))
-        ∙ ap (λ (x : List Float). held_solved held.Damped x room) front-is
+        out_is _ (rw front_is (lower-length room.ldiag room.below w (z.ldiag_long ∙ sym long) (z.below_wide ∙ sym long) ∙ long)) (h ∙ held_damped_in_passed st.n store w (tests_at (length w) (omega arith)))
+        ∙ ap (λ (x : List Float). held_solved held.Damped x room) front_is
 
     pub product-numbers : {a : Reply (Unit {0})} {w' : List Float} → read a w' ≡ product_in st.n store w → w' ≡ mul_upper room.qtb room.upper
     unfolding held_product_of
-    product-numbers h = out-is _ (mul-length room.qtb room.upper ∙ shaped.upper_wide) (h ∙ product-in-passed st.n store w (tests_at (length w) (omega arith)))
+    product-numbers h = out_is _ (mul-length room.qtb room.upper ∙ shaped.upper_wide) (h ∙ product_in_passed st.n store w (tests_at (length w) (omega arith)))
 
   pub undamped-placed : (diag w' : List Float) (radius : Float) → w' ≡ zero_solved st.m room.upper room.qtb
       → placed (problem_of st order diag radius room) w' ≡ undamped_step (problem_of st order diag radius room)
@@ -131,8 +131,8 @@ module _ (st : State) (store : List Float) (order : List ℕ) (e : Ready st stor
     abbrev given : Rows
     given = damping by_place room.upper room.qtb
 
-    place-long : length by_place ≡ st.n
-    place-long = gather-length (take st.n order) (scale_all (root_s lambda) diag) ∙ length-take-le st.n order order_long
+    place_long : length by_place ≡ st.n
+    place_long = gather-length (take st.n order) (scale_all (root_s lambda) diag) ∙ length-take-le st.n order order_long
 
     rows_are : (radius : Float) → given ≡ damped_rows (asked radius) lambda
     unfolding damped_rows
@@ -143,41 +143,41 @@ module _ (st : State) (store : List Float) (order : List ℕ) (e : Ready st stor
 
     -- the diagonal in pivot order
     module _ (ds w : List Float) (es : ds ≡ by_place) (wl : length w ≡ st.n) where
-      ds-long : length ds ≡ st.n
-      ds-long = rw es place-long
+      ds_long : length ds ≡ st.n
+      ds_long = rw es place_long
 
-      worked-by : damping (take st.n ds) room.upper room.qtb ≡ given
-      worked-by = ap (λ (x : List Float). damping x room.upper room.qtb) (take_all st.n ds (omega (arith, ds-long)) ∙ es)
+      worked_by : damping (take st.n ds) room.upper room.qtb ≡ given
+      worked_by = ap (λ (x : List Float). damping x room.upper room.qtb) (take_all st.n ds (omega (arith, ds_long)) ∙ es)
 
       damped-worked : damped_in st.n ds store w ≡ left_in (answered tt) (lay (lowered given room)) (written (solves.damped_numbers given) w)
       damped-worked =
-          damped_in_passed st.n ds store w (tests_at (min (length ds) (length w)) (omega (arith, ds-long)))
-          ∙ ap (λ (x : Rows). left_in (answered tt) (lay (lowered x room)) (written (solves.damped_numbers x) w)) worked-by
+          damped_in_passed st.n ds store w (tests_at (min (length ds) (length w)) (omega (arith, ds_long)))
+          ∙ ap (λ (x : Rows). left_in (answered tt) (lay (lowered x room)) (written (solves.damped_numbers x) w)) worked_by
 
       module _ {a : Reply (Unit {0})} {s' w' : List Float} (h : left_in a s' w' ≡ damped_in st.n ds store w) where
         pub damped-store : (radius : Float) → s' ≡ lay (lowered (damped_rows (asked radius) lambda) room)
         damped-store radius = ap (λ (x : Left). x.store) (h ∙ damped-worked) ∙ ap (λ (x : Rows). lay (lowered x room)) (rows_are radius)
 
-        pub damped-numbers : w' ≡ solves.damped_numbers given
-        damped-numbers =
+        pub damped_numbers_lem : w' ≡ solves.damped_numbers given
+        damped_numbers_lem =
             ap (λ (x : Left). x.out) (h ∙ damped-worked)
             ∙ written_whole (solves.damped_numbers given) w (damped-length (heads given.0) (tails given.0) given.1 ∙ rows_even.1 ∙ sym wl)
 
         pub damped-placed : (radius : Float) → placed (asked radius) w' ≡ damped_step (asked radius) lambda
         unfolding damped_step
-        damped-placed radius = ap (placed (asked radius)) damped-numbers ∙ ap (λ (x : Rows). placed (asked radius) (solves.damped_numbers x)) (rows_are radius)
+        damped-placed radius = ap (placed (asked radius)) damped_numbers_lem ∙ ap (λ (x : Rows). placed (asked radius) (solves.damped_numbers x)) (rows_are radius)
 
   -- ---- the rank, and the room that a search leaves
   pub rank-told : {a : Reply Bool} → a ≡ full_rank st.m st.n store → a ≡ answered (non_singular_of st.m st.n room.upper)
-  rank-told h = h ∙ full_rank_passed st.m st.n store (whole-tests st.n (le_refl st.n))
+  rank-told h = h ∙ full_rank_passed st.m st.n store (whole_tests st.n (le_refl st.n))
 
   pub empty-store : {a : Reply (Unit {0})} {s' : List Float} → read a s' ≡ empty_in st.n store → s' ≡ lay (emptied room)
   empty-store h = ap (λ (x : Read). x.out) (h ∙ empty_in_passed st.n store (tests_at st.n (le_refl st.n)))
 
   -- ---- what the vectors are whose norms are taken of them
-  pub held-is : (h : Held) (s : Float) (v diag w w' : List Float) {w'' : List Float} → length w ≡ st.n
+  pub held_is : (h : Held) (s : Float) (v diag w w' : List Float) {w'' : List Float} → length w ≡ st.n
       → w' ≡ gather (take (length w) order) (turned_by s v diag) → w'' ≡ held_solved h w' room → w'' ≡ held_solved h (gather (take st.n order) (turned_by s v diag)) room
-  held-is h s v diag w w' l a b = b ∙ ap (λ (z : List Float). held_solved h z room) (a ∙ ap (λ (j : ℕ). gather (take j order) (turned_by s v diag)) l)
+  held_is h s v diag w w' l a b = b ∙ ap (λ (z : List Float). held_solved h z room) (a ∙ ap (λ (j : ℕ). gather (take j order) (turned_by s v diag)) l)
 
   module _ (diag : List Float) (dl : length diag ≡ st.n) where
     pub gradient_is : (radius : Float) (w : List Float) {w' : List Float} → length w ≡ st.n → w ≡ mul_upper room.qtb room.upper
@@ -186,5 +186,5 @@ module _ (st : State) (store : List Float) (order : List ℕ) (e : Ready st stor
     gradient_is radius w l a b = b ∙ rw (l, take_all st.n diag (omega arith)) (ap (λ (z : List Float). quotients z (gather (take st.n order) diag)) a)
 
   -- ---- the store after a call
-  pub ready-after : (s' : List Float) → length s' ≡ length store → Ready st s' order
-  ready-after s' h = rw h e
+  pub ready_after : (s' : List Float) → length s' ≡ length store → Ready st s' order
+  ready_after s' h = rw h e

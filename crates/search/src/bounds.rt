@@ -13,7 +13,7 @@ use leaves::norm::{Ranges, either};
 use leaves::number::{abs_within, dwarf, is_negative, max, min};
 
 // What one trial hands to the next: its lambda, the bounds, fp of the trial before, and what the norms so far have seen.
-#[derive(Drop)]
+#[derive(Clone, Copy)]
 pub(crate) struct Going {
     pub(crate) lambda: f64,
     pub(crate) lower: f64,

@@ -23,13 +23,13 @@ use leaves::number::is_finite;
 use leaves::sizes::room16;
 
 // Lambda, scaled norm and the trials run, with what its norms saw (02, #106); or the number of a refusal.
-#[derive(Drop)]
+#[derive(Clone, Copy)]
 pub enum Found {
     Answer(LMParameter, Ranges),
     Refused(u8),
 }
 
-#[derive(Drop)]
+#[derive(Clone, Copy)]
 pub struct SearchTold {
     pub answer: Found,
     pub state: State,

@@ -10,7 +10,7 @@ ghost use Rattle.search.specs.inner.Read.{turned_by};
 use leaves::norm::Ranges;
 
 // A norm or a number taken from it, and what that norm saw (02, #106).
-#[derive(Drop)]
+#[derive(Clone, Copy)]
 pub(crate) struct Measure {
     pub(crate) value: f64,
     pub(crate) seen: Ranges,

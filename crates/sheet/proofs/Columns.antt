@@ -55,27 +55,27 @@ as_started n x (answered f) h = h
 as_started n x (refused k) h = tt
 
 module _ (st : State) (order : List ℕ) where
-  sought-has : (diag : List Float) (radius lambda : Float) (store step : List Float) → Found st.n (sought_from st order diag radius lambda store step).reply
+  sought_has : (diag : List Float) (radius lambda : Float) (store step : List Float) → Found st.n (sought_from st order diag radius lambda store step).reply
   unfolding sought_from
-  sought-has diag radius lambda store step = by_determined_lem st.n (determined_call st store).reply _ step
+  sought_has diag radius lambda store step = by_determined_lem st.n (determined_call st store).reply _ step
 
-  scaled-has : (r : Reply Scaled) (diag store step : List Float) → Has st.n (by_scaling st order r diag store step).reply
-  scaled-has (answered (first t f)) diag store step = as_started st.n t.radius (sought_from st order diag t.radius plus_zero store step).reply (sought-has diag t.radius plus_zero store step)
-  scaled-has (answered (later f)) diag store step = tt
-  scaled-has (refused k) diag store step = tt
+  scaled_has : (r : Reply Scaled) (diag store step : List Float) → Has st.n (by_scaling st order r diag store step).reply
+  scaled_has (answered (first t f)) diag store step = as_started st.n t.radius (sought_from st order diag t.radius plus_zero store step).reply (sought_has diag t.radius plus_zero store step)
+  scaled_has (answered (later f)) diag store step = tt
+  scaled_has (refused k) diag store step = tt
 
-  started-has : (x : List Float) (bound : Float) (store step : List Float) → Has st.n (started_from st order x bound store step).reply
+  started_has : (x : List Float) (bound : Float) (store step : List Float) → Has st.n (started_from st order x bound store step).reply
   unfolding started_from
-  started-has x bound store step =
-      let s = scaling_call st mode.FirstScaled (zeros 16) x bound store in scaled-has s.reply s.out s.store step
+  started_has x bound store step =
+      let s = scaling_call st mode.FirstScaled (zeros 16) x bound store in scaled_has s.reply s.out s.store step
 
-  task-has : (t : Task) (store step : List Float) → Has st.n (task_from t st order store step).reply
+  task_has : (t : Task) (store step : List Float) → Has st.n (task_from t st order store step).reply
   unfolding task_from
-  task-has (search diag radius lambda) store step = as_searched st.n (sought_from st order diag radius lambda store step).reply (sought-has diag radius lambda store step)
-  task-has (start x bound) store step = started-has x bound store step
+  task_has (search diag radius lambda) store step = as_searched st.n (sought_from st order diag radius lambda store step).reply (sought_has diag radius lambda store step)
+  task_has (start x bound) store step = started_has x bound store step
 
 factored_has : (task : Task) (r : Reply Ranges) (st : State) (order : List ℕ) (store step : List Float) (n : ℕ) → ((f : Ranges) → r ≡ answered f → st.n ≡ n) → Has n (by_factoring task r st order store step).reply
-factored_has task (answered u) st order store step n h = subst (λ (k : ℕ). Has k (task_from task st order store step).reply) (h u refl) (task-has st order task store step)
+factored_has task (answered u) st order store step n h = subst (λ (k : ℕ). Has k (task_from task st order store step).reply) (h u refl) (task_has st order task store step)
 factored_has task (refused k) st order store step n h = tt
 
 worked_has : (j : Job) (step : List Float) → Has j.n (worked j step).reply

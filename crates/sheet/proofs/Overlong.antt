@@ -60,9 +60,9 @@ module _ (s : List ℕ) (long : 17555 < length s) where
       test_passed _ _ (le-ltb (length s) 3 (omega arith))
       ∙ tests_stop (unknown (head_of s)) (outside (head_of s).m (head_of s).n) _ (number_tests (head_of s) (numbers_of (head_of s) s)) (too_long room)
 
-  refused-long : (step : List Float) → finished (refused (number (head_of s))) step ≡ sheet_call s step
+  refused_long : (step : List Float) → finished (refused (number (head_of s))) step ≡ sheet_call s step
   unfolding sheet_call
-  refused-long step =
+  refused_long step =
       call-refused (worked (job_of (head_of s) (numbers_of (head_of s) s)) step) (λ (k : ℕ). finished (refused k) step) (sheet_tests s (length step)) (number (head_of s)) (met (length step)) (some_number (unknown (head_of s)) (outside (head_of s).m (head_of s).n))
 
 same_head : (s : List ℕ) (k : ℕ) → 3 ≤ k → head_of (take k s) ≡ head_of s
@@ -74,7 +74,7 @@ unfolding sheet_text
 overlong s h =
     let l : length (take 17556 s) ≡ 17556 = length-take-le 17556 s (omega arith) in
     let e : sheet_call (take 17556 s) (zeros 16) ≡ sheet_call s (zeros 16)
-    = sym (refused-long (take 17556 s) (omega arith) (zeros 16))
+    = sym (refused_long (take 17556 s) (omega arith) (zeros 16))
     ∙ ap (λ (x : Head). finished (refused (number x)) (zeros 16)) (same_head s 17556 (omega arith))
-    ∙ refused-long s h (zeros 16) in
+    ∙ refused_long s h (zeros 16) in
     ap (λ (t : Finished Fit). lines_of t.reply t.step) e

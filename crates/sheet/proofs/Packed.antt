@@ -65,17 +65,17 @@ module _ (s : List ℕ) where
   abbrev pub after : List Float → ℕ → ℕ → List Float
   after out k i = take i out ++ doubles (k - i) (drop (3 + 8 * i) s)
 
-  pub read-turn : (out : List Float) (k i : ℕ) {w : ℕ} {x : Float} → i < k → k ≡ length out → w ≡ big 0 (take 8 (drop (3 + 8 * i) s)) → x ≡ of_bits binary64 w
+  pub read_turn : (out : List Float) (k i : ℕ) {w : ℕ} {x : Float} → i < k → k ≡ length out → w ≡ big 0 (take 8 (drop (3 + 8 * i) s)) → x ≡ of_bits binary64 w
       → after (set out i x) k (i + 1) ≡ after out k i
   unfolding doubles
-  read-turn out k i h l e p =
+  read_turn out k i h l e p =
       let u : k - i ≡ suc (k - (i + 1)) = omega arith in
       let v : 3 + 8 * (i + 1) ≡ 3 + 8 * i + 8 = omega arith in
       rw (u, v, ← drop-drop 8 (3 + 8 * i) s, add-one, take-suc-set out i _ (omega arith), append_snoc, p, e)
 
-  pub read-end : (out : List Float) (k i : ℕ) → k ≤ i → k ≡ length out → after out k i ≡ out
+  pub read_end : (out : List Float) (k i : ℕ) → k ≤ i → k ≡ length out → after out k i ≡ out
   unfolding doubles
-  read-end out k i h l =
+  read_end out k i h l =
       let u : k - i ≡ 0 = omega arith in
       rw (u, take_all i out (omega arith)) (nothing out)
     where

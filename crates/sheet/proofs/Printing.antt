@@ -41,13 +41,13 @@ module _ (a : Reply Fit) (step : List Float) (text : List ℕ) {c : ℕ} (e : c 
   abbrev refusal : ℕ → Reply ℕ × List ℕ
   refusal k = (refused k, text)
 
-  pub lines-refused : c ≢ 0 → (refused c, text) ≡ lines_call a step text
+  pub lines_refused : c ≢ 0 → (refused c, text) ≡ lines_call a step text
   unfolding lines_call
-  lines-refused n = call-refused (printed (lines_of a step) text) refusal (lines_tests a (length step)) c (sym e) (ne_eqb _ _ n)
+  lines_refused n = call-refused (printed (lines_of a step) text) refusal (lines_tests a (length step)) c (sym e) (ne_eqb _ _ n)
 
-  pub lines-printed : c ≡ 0 → {b : List ℕ} → b ≡ lines_of a step → {r : Reply ℕ × List ℕ} → r ≡ printed b text → r ≡ lines_call a step text
+  pub lines_printed : c ≡ 0 → {b : List ℕ} → b ≡ lines_of a step → {r : Reply ℕ × List ℕ} → r ≡ printed b text → r ≡ lines_call a step text
   unfolding lines_call
-  lines-printed z g h =
+  lines_printed z g h =
       h ∙ ap (λ (x : List ℕ). printed x text) g ∙ call-worked (printed (lines_of a step) text) refusal (lines_tests a (length step)) (sym e ∙ z)
 
 -- a sheet's answer, printed: no test of its lines is met

@@ -32,17 +32,17 @@ module _ (s : List ℕ) (step : List Float) where
   abbrev whole : Finished Fit
   whole = worked (job_of (head_of s) (numbers_of (head_of s) s)) step
 
-  pub tested-iff : (k : ℕ) → 0 < k → (first_of (sheet_tests s (length step)) ≡ k) ↔ RefusedBy (sheet_tests s (length step)) k
-  tested-iff k p = refused_iff (sheet_tests s (length step)) k p
+  pub tested_iff : (k : ℕ) → 0 < k → (first_of (sheet_tests s (length step)) ≡ k) ↔ RefusedBy (sheet_tests s (length step)) k
+  tested_iff k p = refused_iff (sheet_tests s (length step)) k p
 
-  pub sheet-is-refused : (k : ℕ) → 0 < k → RefusedBy (sheet_tests s (length step)) k → finished (refused k) step ≡ sheet_call s step
+  pub sheet_is_refused : (k : ℕ) → 0 < k → RefusedBy (sheet_tests s (length step)) k → finished (refused k) step ≡ sheet_call s step
   unfolding sheet_call
-  sheet-is-refused k p r =
-      call-refused whole (λ (j : ℕ). finished (refused j) step) (sheet_tests s (length step)) k ((tested-iff k p).1 r) (ne_eqb k 0 (λ e. omega arith))
+  sheet_is_refused k p r =
+      call-refused whole (λ (j : ℕ). finished (refused j) step) (sheet_tests s (length step)) k ((tested_iff k p).1 r) (ne_eqb k 0 (λ e. omega arith))
 
-  pub sheet-is-worked : NoneHold (sheet_tests s (length step)) → whole ≡ sheet_call s step
+  pub sheet_is_worked : NoneHold (sheet_tests s (length step)) → whole ≡ sheet_call s step
   unfolding sheet_call
-  sheet-is-worked h = call-worked whole (λ (j : ℕ). finished (refused j) step) (sheet_tests s (length step)) ((passed_iff (sheet_tests s (length step)) all_numbered).1 h)
+  sheet_is_worked h = call-worked whole (λ (j : ℕ). finished (refused j) step) (sheet_tests s (length step)) ((passed_iff (sheet_tests s (length step)) all_numbered).1 h)
 
 -- ---- a sheet for each number
 abbrev zero8 : List ℕ

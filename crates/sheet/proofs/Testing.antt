@@ -20,15 +20,15 @@ use Rattle.sheet.specs.declared.head.Head.{Head}
 
 -- ---- 3: the sheet's length and the lent step's
 module _ (h : Head) (len room : ℕ) {k : ℕ} (e : k ≡ count_of h) where
-  pub length-off : len ≢ 3 + 8 * k → (not (eqb len (length_of h)) || ltb room h.n) ≡ true
-  length-off t = rw (← e, ne_eqb _ _ t)
+  pub length_off : len ≢ 3 + 8 * k → (not (eqb len (length_of h)) || ltb room h.n) ≡ true
+  length_off t = rw (← e, ne_eqb _ _ t)
 
   module _ (t : len ≡ 3 + 8 * k) where
-    pub step-short : room < h.n → (not (eqb len (length_of h)) || ltb room h.n) ≡ true
-    step-short u = rw (← e, eq-eqb _ _ t, lt-ltb _ _ u)
+    pub step_short : room < h.n → (not (eqb len (length_of h)) || ltb room h.n) ≡ true
+    step_short u = rw (← e, eq-eqb _ _ t, lt-ltb _ _ u)
 
-    pub lengths-met : h.n ≤ room → (not (eqb len (length_of h)) || ltb room h.n) ≡ false
-    lengths-met u = rw (← e, eq-eqb _ _ t, le-ltb _ _ u)
+    pub lengths_met : h.n ≤ room → (not (eqb len (length_of h)) || ltb room h.n) ≡ false
+    lengths_met u = rw (← e, eq-eqb _ _ t, le-ltb _ _ u)
 
 -- ---- 6 and 7: the numbers' places
 module _ (h : Head) (xs : List Float) (e : length xs ≡ count_of h) (o : outside h.m h.n ≡ false) where
@@ -39,13 +39,13 @@ module _ (h : Head) (xs : List Float) (e : length xs ≡ count_of h) (o : outsid
   unfolding count_of
   whole = e
 
-  pub rest-long : h.n + lasts h.call ≤ length (drop (h.m * h.n + h.m) xs)
-  rest-long = let w = whole in rw length-drop (omega arith)
+  pub rest_long : h.n + lasts h.call ≤ length (drop (h.m * h.n + h.m) xs)
+  rest_long = let w = whole in rw length-drop (omega arith)
 
   -- what stands behind the residuals
-  pub task-is : task_of h.call h.n (drop (h.m * h.n + h.m) xs) ≡ (job_of h xs).task
+  pub task_is : task_of h.call h.n (drop (h.m * h.n + h.m) xs) ≡ (job_of h xs).task
   unfolding job_of
-  task-is = ap (λ (l : List Float). task_of h.call h.n l) (sym (drop-drop h.m (h.m * h.n) xs))
+  task_is = ap (λ (l : List Float). task_of h.call h.n l) (sym (drop-drop h.m (h.m * h.n) xs))
 
 -- a call other than 1 ends with one number
 pub search-task : (call n : ℕ) (xs : List Float) → call ≡ 1 → search (take n xs) (get_or xs n nan) (get_or xs (n + 1) nan) ≡ task_of call n xs
@@ -64,14 +64,14 @@ start_ends call n xs h e = rw (ne_eqb _ _ e) at h
 
 -- ---- 6, then 7
 module _ (h : Head) (xs : List Float) (e : length xs ≡ count_of h) (o : outside h.m h.n ≡ false) {b : Bool} (f : b ≡ all_finite xs) where
-  finite-is : not (all_finite xs) ≡ not b
-  finite-is = ap not (sym f)
+  finite_is : not (all_finite xs) ≡ not b
+  finite_is = ap not (sym f)
 
   pub numbers-bad : not b ≡ true → 6 ≡ first_of (number_tests h xs)
-  numbers-bad t = sym (test_met _ _ (finite-is ∙ t))
+  numbers-bad t = sym (test_met _ _ (finite_is ∙ t))
 
-  pub numbers-good : not b ≡ false → {k : ℕ} → k ≡ first_of (task_tests (task_of h.call h.n (take (length xs - (h.m * h.n + h.m)) (drop (h.m * h.n + h.m) xs)))) → k ≡ first_of (number_tests h xs)
-  numbers-good t r =
+  pub numbers_good : not b ≡ false → {k : ℕ} → k ≡ first_of (task_tests (task_of h.call h.n (take (length xs - (h.m * h.n + h.m)) (drop (h.m * h.n + h.m) xs)))) → k ≡ first_of (number_tests h xs)
+  numbers_good t r =
       let w = whole h xs e o in
-      past _ _ (finite-is ∙ t)
-      (r ∙ ap (λ (l : List Float). first_of (task_tests (task_of h.call h.n l))) (part_to_end xs (h.m * h.n + h.m)) ∙ ap (λ (u : Task). first_of (task_tests u)) (task-is h xs e o))
+      past _ _ (finite_is ∙ t)
+      (r ∙ ap (λ (l : List Float). first_of (task_tests (task_of h.call h.n l))) (part_to_end xs (h.m * h.n + h.m)) ∙ ap (λ (u : Task). first_of (task_tests u)) (task_is h xs e o))

@@ -1,7 +1,7 @@
 // What the working of a sheet answers. A refusal carries document 01's number. It tells the columns: a caller need not read the head.
 
 // What a search tells beside its step, which has a number for each of the columns.
-#[derive(Drop)]
+#[derive(Clone, Copy)]
 pub struct Fitted {
     pub columns: usize,
     pub lambda: f64,
@@ -11,13 +11,13 @@ pub struct Fitted {
 }
 
 // Call 2 works out its radius.
-#[derive(Drop)]
+#[derive(Clone, Copy)]
 pub struct Started {
     pub radius: f64,
     pub fitted: Fitted,
 }
 
-#[derive(Drop)]
+#[derive(Clone, Copy)]
 pub enum Answer {
     Searched(Fitted),
     Started(Started),

@@ -1,4 +1,6 @@
 // Document 01's job sheet: its fields, its working by the crates below, and the lines that `fitstep` prints.
+#![tactic(auto)]
+
 pub mod answer;
 mod check;
 mod head;

@@ -13,7 +13,7 @@ use measures::scaling::{Mode, Scaling};
 use measures::update_diag::update_diag;
 use search::trust_region::{Found, determine_lambda_and_parameter_update};
 
-#[derive(Drop)]
+#[derive(Clone, Copy)]
 enum Sought {
     Found(Fitted),
     Refused(u8),

@@ -3,7 +3,7 @@ use crate::play;
 use lines::part::within;
 
 // The place in the chunk; how many bytes of the line have come; how much text waits; whether there is more to read.
-#[derive(Drop)]
+#[derive(Clone, Copy)]
 struct Spot {
     next: usize,
     fill: usize,

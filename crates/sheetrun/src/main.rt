@@ -3,6 +3,8 @@
 //
 // Proved: every function is safe and ends; what is printed for a sheet is `fit_lines`'s. Assumed: the contracts of the C functions `read` and
 // `write`. That lines are taken apart rightly is shown by runs, not proved.
+#![tactic(auto)]
+
 mod feed;
 mod play;
 

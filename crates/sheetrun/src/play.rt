@@ -19,13 +19,13 @@ fn lines_room() -> [u8; 1024]
 }
 
 // Two hex digits.
-#[derive(Drop)]
+#[derive(Clone, Copy)]
 enum Hex {
     Is(u8),
     Not,
 }
 
-#[derive(Drop)]
+#[derive(Clone, Copy)]
 enum Bytes {
     Are(usize),
     Not,

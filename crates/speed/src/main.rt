@@ -9,6 +9,8 @@
 //
 // Proved: every function is safe and ends. Assumed: the contracts of the C functions `read` and `write`. The checksum is compared with
 // the oracle's.
+#![tactic(auto)]
+
 mod away;
 mod make;
 mod play;

@@ -10,7 +10,7 @@ use search::trust_region::Found;
 use std::num::{wrapping_add_usize, wrapping_sub_usize};
 
 // Of the drawn columns the first n are factored, those with a mark frozen.
-#[derive(Drop)]
+#[derive(Clone, Copy)]
 pub(crate) struct Task {
     pub(crate) m: usize,
     pub(crate) n: usize,
@@ -19,7 +19,7 @@ pub(crate) struct Task {
     pub(crate) mode: usize,
 }
 
-#[derive(Drop)]
+#[derive(Clone, Copy)]
 pub(crate) struct Tally {
     pub(crate) seed: u64,
     pub(crate) sum: f64,

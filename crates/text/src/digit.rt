@@ -2,7 +2,7 @@
 ghost use Rattle.std.specs.Prelude.{◌≡◌, ◌%◌, ◌<◌};
 ghost use Rattle.text.specs.Digit.{digit_of, glyph};
 
-#[derive(Drop)]
+#[derive(Clone, Copy)]
 pub enum Digit {
     Is(u64),
     Not,

@@ -5,13 +5,13 @@ ghost use Rattle.text.specs.Read.{number_ends, stopped, read_from};
 use crate::digit::{Digit, value};
 
 // A number, and the place of what stands after its last digit.
-#[derive(Drop)]
+#[derive(Clone, Copy)]
 pub struct Found {
     pub value: u64,
     pub next: usize,
 }
 
-#[derive(Drop)]
+#[derive(Clone, Copy)]
 pub enum Read {
     Is(Found),
     Refused,

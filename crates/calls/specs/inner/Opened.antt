@@ -1,7 +1,7 @@
 -- One name for every definition of the crates below and of this crate, so that a table of examples says `unfolding opened` and computes with them.
 use Rattle.measures.specs.inner.Opened.{opened as measures}
 use Rattle.search.specs.inner.Opened.{opened as search}
-use Rattle.frozen.specs.Frozen.{marks_of, mark_past, free_count, freeOf, merged, freeColumns}
+use Rattle.frozen.specs.Frozen.{marks_of, mark_past, free_count, free_of, merged, free_columns}
 use Rattle.frozen.specs.Narrowed.{runs, narrowed, spread, spread_out}
 use Rattle.calls.specs.Tests.{continues}
 use Rattle.calls.specs.Outcome.{widened}
@@ -13,5 +13,5 @@ use Rattle.calls.specs.Rescale.{marked_scaling_tests, frozen_entries, marked_sca
 use Rattle.calls.specs.Search.{marked_search}
 
 unfoldable pub opened : Unit {0}
-unfolding measures search marks_of mark_past free_count freeOf merged freeColumns runs narrowed spread spread_out continues widened marked_factoring marked_zero marked_damped marked_solve marked_mul marked_gradient marked_above marked_jx marked_determined marked_non_singular marked_scaling_tests frozen_entries marked_scaling marked_search
+unfolding measures search marks_of mark_past free_count free_of merged free_columns runs narrowed spread spread_out continues widened marked_factoring marked_zero marked_damped marked_solve marked_mul marked_gradient marked_above marked_jx marked_determined marked_non_singular marked_scaling_tests frozen_entries marked_scaling marked_search
 opened = tt

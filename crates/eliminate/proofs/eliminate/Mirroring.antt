@@ -13,7 +13,7 @@ use Rattle.leaves.specs.Square.{uppers_of}
 use Rattle.eliminate.specs.Eliminate.{heads, rows_from}
 use Rattle.eliminate.specs.inner.Edges.{edges_of, Mirrors, MirrorsColumn}
 use Rattle.leaves.proofs.Squares.{uppers_of-length, upper-cell}
-use Rattle.eliminate.proofs.Triangular.{edges_of-length, edge-long, edge-cell, cell-rows, cell-above, heads-same, uppers_by}
+use Rattle.eliminate.proofs.Triangular.{edges_of-length, edge_long, edge_cell, cell_rows, cell-above, heads-same, uppers_by}
 use Rattle.leaves.specs.inner.Squares.{Square}
 
 rows_length : (j : ℕ) (cs : List (List Float)) → length (rows_from j cs) ≡ length cs
@@ -48,8 +48,8 @@ module _ (n : ℕ) (s : List Float) (q : Square n s) (k : ℕ) (h : k < n) where
       let e : 0 + k ≡ k = zero-add k in
       rw e at (rows_from_at 0 k (uppers_of n s) (omega (arith, uppers_of-length n s)))
 
-  pub row-long : length (row_of n s k) ≡ n - k
-  row-long = ap length row_at ∙ length-map (drop k (uppers_of n s)) (λ d. get_or d k nan) ∙ simp length-drop (omega (arith, uppers_of-length n s))
+  pub row_long : length (row_of n s k) ≡ n - k
+  row_long = ap length row_at ∙ length-map (drop k (uppers_of n s)) (λ d. get_or d k nan) ∙ simp length-drop (omega (arith, uppers_of-length n s))
 
   pub row-cell : (i : ℕ) → k ≤ i → i < n → get_or (row_of n s k) (i - k) nan ≡ get_or s (i * n + k) nan
   row-cell i l u =
@@ -63,33 +63,33 @@ pub record Mirroring (n k i : ℕ) (s₀ s : List Float) : Type 0 where
   pub upper : uppers_of n s ≡ uppers_of n s₀
 
 module _ (n : ℕ) (s₀ : List Float) (q₀ : Square n s₀) (k : ℕ) (h : k < n) where
-  pub column-start : Mirroring n k (k + 1) s₀ s₀
-  column-start =
+  pub column_start : Mirroring n k (k + 1) s₀ s₀
+  column_start =
       let e : k + 1 - k ≡ 1 = omega arith in
       let z : k - k ≡ 0 = omega arith in
-      let a = row-long n s₀ q₀ k h in
-      let b = edge-long n s₀ q₀ k h in
+      let a = row_long n s₀ q₀ k h in
+      let b = edge_long n s₀ q₀ k h in
       let c : get_or (row_of n s₀ k) 0 nan ≡ get_or (get_or (edges_of n s₀) k []) 0 nan =
-      (rw z at (row-cell n s₀ q₀ k h k (omega arith) h)) ∙ sym (rw z at (edge-cell n s₀ q₀ k h k (omega arith) h)) in
+      (rw z at (row-cell n s₀ q₀ k h k (omega arith) h)) ∙ sym (rw z at (edge_cell n s₀ q₀ k h k (omega arith) h)) in
       record {
         rows = rw (e, front_one (row_of n s₀ k) (get_or (edges_of n s₀) k []) (omega arith) (omega arith) c) (sym (set-get_or (edges_of n s₀) k []));
         upper = refl;
       }
 
-  pub column-turn : (s : List Float) (i : ℕ) → Square n s → k < i → i < n → Mirroring n k i s₀ s
+  pub column_turn : (s : List Float) (i : ℕ) → Square n s → k < i → i < n → Mirroring n k i s₀ s
       → Mirroring n k (i + 1) s₀ (set s (k * n + i) (get_or s (i * n + k) nan))
-  column-turn s i q l u m =
+  column_turn s i q l u m =
       let v = get_or s (i * n + k) nan in
       let zs = row_of n s₀ k in
       let ys = get_or (edges_of n s₀) k [] in
       let w : length (set s (k * n + i) v) ≡ n * n = length-set s (k * n + i) v ∙ q.whole in
-      let a = row-long n s₀ q₀ k h in
-      let b = edge-long n s₀ q₀ k h in
+      let a = row_long n s₀ q₀ k h in
+      let b = edge_long n s₀ q₀ k h in
       let f : get_or (edges_of n s) k [] ≡ front (i - k) zs ys = rw m.rows (get_or-set_same (edges_of n s₀) k (front (i - k) zs ys) [] (omega (arith, edges_of-length n s₀))) in
       let vs : v ≡ get_or zs (i - k) nan =
       sym (upper-cell n s q i u k (omega arith)) ∙ rw m.upper (upper-cell n s₀ q₀ i u k (omega arith)) ∙ sym (row-cell n s₀ q₀ k h i (omega arith) u) in
       let e : i + 1 - k ≡ suc (i - k) = omega arith in
-      let r = cell-rows n s q k h i (omega arith) u v in
+      let r = cell_rows n s q k h i (omega arith) u v in
       let hs : heads (edges_of n (set s (k * n + i) v)) ≡ heads (edges_of n s) =
       ap heads r ∙ firsts (edges_of n s) (i - k) v (omega arith) in
       record {
@@ -100,10 +100,10 @@ module _ (n : ℕ) (s₀ : List Float) (q₀ : Square n s₀) (k : ℕ) (h : k <
       firsts : (rows : List (List Float)) (t : ℕ) (v : Float) → 0 < t → heads (set rows k (set (get_or rows k []) t v)) ≡ heads rows
       firsts rows t v p = heads-same rows k (set (get_or rows k []) t v) (get_or-set_other (get_or rows k []) t 0 v nan (λ z. omega arith))
 
-  pub column-done : (s : List Float) (i : ℕ) → n ≤ i → Mirroring n k i s₀ s → MirrorsColumn n k s₀ s
-  column-done s i l m =
-      let a = row-long n s₀ q₀ k h in
-      let b = edge-long n s₀ q₀ k h in
+  pub column_done : (s : List Float) (i : ℕ) → n ≤ i → Mirroring n k i s₀ s → MirrorsColumn n k s₀ s
+  column_done s i l m =
+      let a = row_long n s₀ q₀ k h in
+      let b = edge_long n s₀ q₀ k h in
       let e = front_end (row_of n s₀ k) (get_or (edges_of n s₀) k []) _ (i - k) (a ∙ sym b) (omega arith) refl in
       record { rows = m.rows ∙ rw e; upper = m.upper }
 

@@ -14,8 +14,8 @@ use Rattle.eliminate.specs.inner.Edges.{edges_of, ahead, TurnsPlace, Ahead, Turn
 use Rattle.eliminate.specs.declared.eliminate.Pair.{Pair}
 use Rattle.eliminate.specs.declared.eliminate.Rotation.{Rotation}
 use Rattle.leaves.specs.inner.Patch.{patch}
-use Rattle.eliminate.proofs.Triangular.{edges_of-length, edge_at, edge-long, lent_rows, lent-above}
-use Rattle.eliminate.proofs.Rotations.{turned-length, ahead-skipped, ahead-turned, ahead_none}
+use Rattle.eliminate.proofs.Triangular.{edges_of-length, edge_at, edge_long, lent_rows, lent-above}
+use Rattle.eliminate.proofs.Rotations.{turned-length, ahead_skipped, ahead-turned, ahead_none}
 use Rattle.leaves.specs.inner.Squares.{Square}
 
 -- LAW: one rotation by its own numbers
@@ -25,17 +25,17 @@ turns_place col col' l l' b q g e r w = record { row = rw (← e) r; new = rw (�
 
 module _ (n k : ℕ) (s bs l : List Float) (q : Float) (sq : Square n s) (h : k < n) (hl : length l ≡ n) (hb : length bs ≡ n) where
   -- LAW: a zero is skipped
-  pub place-skipped : eq (get_or l k nan) plus_zero ≡ true → Ahead n s s (ahead n k s bs l q) (ahead n (k + 1) s bs l q)
-  place-skipped t =
+  pub place_skipped : eq (get_or l k nan) plus_zero ≡ true → Ahead n s s (ahead n k s bs l q) (ahead n (k + 1) s bs l q)
+  place_skipped t =
       let e = edges_of-length n s in
-      record { same = rw add-one (ahead-skipped k (edges_of n s) bs l q (omega arith) (omega arith) (omega arith) t); above = refl }
+      record { same = rw add-one (ahead_skipped k (edges_of n s) bs l q (omega arith) (omega arith) (omega arith) t); above = refl }
 
   module _ (p : Pair) (y z : List Float) (t : eq (get_or l k nan) plus_zero ≡ false) where
-    turned-clean : TurnsPlace (get_or (edges_of n s) k []) y (drop k l) z (get_or bs k nan) q p
+    turned_clean : TurnsPlace (get_or (edges_of n s) k []) y (drop k l) z (get_or bs k nan) q p
         → Ahead n s (patch (k * n + k) (n - k) s y) (ahead n k s bs l q) (ahead n (k + 1) (patch (k * n + k) (n - k) s y) (set bs k p.b) (take k l ++ z) p.rest)
-    turned-clean m =
+    turned_clean m =
         let e = edges_of-length n s in
-        let el = edge-long n s sq k h in
+        let el = edge_long n s sq k h in
         let dl : length (drop k l) ≡ n - k = simp length-drop (omega arith) in
         let g = givens (get_or (get_or (edges_of n s) k []) 0 nan) (get_or (drop k l) 0 nan) in
         let ly : length y ≡ n - k = ap length m.row ∙ turned-length g (get_or (edges_of n s) k []) (drop k l) (el ∙ sym dl) ∙ el in
@@ -47,15 +47,15 @@ module _ (n k : ℕ) (s bs l : List Float) (q : Float) (sq : Square n s) (h : k 
         }
 
     -- LAW: what is lent from the diagonal on, and of the new row from place k on, comes back rotated
-    pub place-turned : (f : ℕ) → f ≡ k * n + k → TurnsPlace (take (f + (n - k) - f) (drop f s)) y (take (n - k) (drop k l)) z (get_or bs k nan) q p
+    pub place_turned : (f : ℕ) → f ≡ k * n + k → TurnsPlace (take (f + (n - k) - f) (drop f s)) y (take (n - k) (drop k l)) z (get_or bs k nan) q p
         → Ahead n s (patch f (f + (n - k) - f) s y) (ahead n k s bs l q) (ahead n (k + 1) (patch f (f + (n - k) - f) s y) (set bs k p.b) (patch k (n - k) l z) p.rest)
-    place-turned f ef m =
+    place_turned f ef m =
         let w : f + (n - k) - f ≡ n - k = omega arith in
         let dl : length (drop k l) ≡ n - k = simp length-drop (omega arith) in
         let none : drop (n - k) (drop k l) ≡ [] = drop_of_length-le (drop k l) {i = n - k} (omega arith) in
         let a : take (f + (n - k) - f) (drop f s) ≡ get_or (edges_of n s) k [] = rw (w, ef) (sym (edge_at n s sq k h)) in
         let b : take (n - k) (drop k l) ≡ drop k l = take_all (n - k) (drop k l) (omega arith) in
-        rw (w, ef, none, append-nil z) (turned-clean (rw (a, b) at m))
+        rw (w, ef, none, append-nil z) (turned_clean (rw (a, b) at m))
 
 -- LAW: all places done
 pub places_done : (n k : ℕ) (s₀ s bs l : List Float) (q : Float) {x : List (List Float) × List Float} → n ≤ k → length bs ≡ n → Ahead n s₀ s x (ahead n k s bs l q) → Turns n s₀ s bs x

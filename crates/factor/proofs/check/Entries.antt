@@ -18,8 +18,8 @@ module _ {A : Type 0} (v : List A) (n i : ℕ) where
       let e : length (take n v) ≡ n = length-take-le n v l in
       rw (add-one, drop-cons (take n v) i d (omega arith), get_or-take n v i d h)
 
-  left-none : n ≤ i → drop i (take n v) ≡ []
-  left-none h = drop_of_length-le (take n v) {i = i} (omega (arith, length-take n v))
+  left_none : n ≤ i → drop i (take n v) ≡ []
+  left_none h = drop_of_length-le (take n v) {i = i} (omega (arith, length-take n v))
 
 -- ---- 4: each entry below n, and none twice, with a mark at each number that was met
 unfoldable pub unmet : List Bool → List ℕ → Bool
@@ -65,22 +65,22 @@ pub order-start : (n : ℕ) (order : List ℕ) (met : List Bool) → met ≡ rep
 order-start n order met e = rw (e, none_met 16 (take n order)) (and-true (is_permutation n order))
 
 module _ (order : List ℕ) (n k : ℕ) (met : List Bool) (h : k < n) (l : n ≤ length order) where
-  pub order-high : n ≤ get_or order k 0 → to_meet n order k met ≡ false
+  pub order_high : n ≤ get_or order k 0 → to_meet n order k met ≡ false
   unfolding distinct_below
-  order-high e = rw (left-cons order n k 0 h l, le-ltb (get_or order k 0) n e)
+  order_high e = rw (left-cons order n k 0 h l, le-ltb (get_or order k 0) n e)
 
-  pub order-twice : get_or met (get_or order k 0) false ≡ true → to_meet n order k met ≡ false
+  pub order_twice : get_or met (get_or order k 0) false ≡ true → to_meet n order k met ≡ false
   unfolding unmet
-  order-twice e = rw (left-cons order n k 0 h l, e) (and-false (distinct_below n (get_or order k 0 ∷ drop (k + 1) (take n order))))
+  order_twice e = rw (left-cons order n k 0 h l, e) (and-false (distinct_below n (get_or order k 0 ∷ drop (k + 1) (take n order))))
 
-  pub order-turn : get_or order k 0 < n → get_or order k 0 < length met → get_or met (get_or order k 0) false ≡ false
+  pub order_turn : get_or order k 0 < n → get_or order k 0 < length met → get_or met (get_or order k 0) false ≡ false
       → to_meet n order (k + 1) (set met (get_or order k 0) true) ≡ to_meet n order k met
   unfolding distinct_below unmet
-  order-turn b r e =
+  order_turn b r e =
       let rest = drop (k + 1) (take n order) in
       rw (left-cons order n k 0 h l, lt-ltb (get_or order k 0) n b, e, unmet_set met (get_or order k 0) rest r)
       (grouped (distinct_below n rest) (absent (get_or order k 0) rest) (unmet met rest))
 
 pub order-end : (order : List ℕ) (n k : ℕ) (met : List Bool) → n ≤ k → to_meet n order k met ≡ true
 unfolding distinct_below unmet
-order-end order n k met h = rw (left-none order n k h)
+order-end order n k met h = rw (left_none order n k h)

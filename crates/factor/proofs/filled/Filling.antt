@@ -28,20 +28,20 @@ module _ (m n : ℕ) (store : List Float) (order : List ℕ) (bench : List Float
   abbrev tests : ℕ
   tests = first_of (filled_tests m n (length store) (length order) (length bench))
 
-  pub filling-refused : (c : ℕ) → c ≡ tests → (c ≡ 0 → ⊥) → filled_as (refused c) store order bench ≡ factor_filled m n store order bench
+  pub filling_refused : (c : ℕ) → c ≡ tests → (c ≡ 0 → ⊥) → filled_as (refused c) store order bench ≡ factor_filled m n store order bench
   unfolding factor_filled
-  filling-refused c e h = call-refused _ (λ k. filled_as (refused k) store order bench) _ c (sym e) (ne_eqb c 0 h)
+  filling_refused c e h = call-refused _ (λ k. filled_as (refused k) store order bench) _ c (sym e) (ne_eqb c 0 h)
 
-  filling-worked : (c : ℕ) {x : Factored} → c ≡ tests → c ≡ 0 → x ≡ factor_worked m n (take (m * n) bench) (drop (m * n) bench) store order bench → filled_of x ≡ factor_filled m n store order bench
+  filling_worked : (c : ℕ) {x : Factored} → c ≡ tests → c ≡ 0 → x ≡ factor_worked m n (take (m * n) bench) (drop (m * n) bench) store order bench → filled_of x ≡ factor_filled m n store order bench
   unfolding factor_filled
-  filling-worked c e z h = ap filled_of h ∙ call-worked _ (λ k. filled_as (refused k) store order bench) _ (sym e ∙ z)
+  filling_worked c e z h = ap filled_of h ∙ call-worked _ (λ k. filled_as (refused k) store order bench) _ (sym e ∙ z)
 
   -- finite, and not
   module _
       (c : ℕ) (b : Bool) (seen : Ranges) (s : List Float) (o : List ℕ) (h : List Float) (e : c ≡ tests) (z : c ≡ 0)
       (w : outcome b seen m n s o h ≡ factor_worked m n (take (m * n) bench) (drop (m * n) bench) store order bench) where
-    pub filling-answered : b ≡ true → filled_as (answered seen) s o h ≡ factor_filled m n store order bench
-    filling-answered t = filling-worked c e z (ap (λ (x : Bool). outcome x seen m n s o h) (sym t) ∙ w)
+    pub filling_answered : b ≡ true → filled_as (answered seen) s o h ≡ factor_filled m n store order bench
+    filling_answered t = filling_worked c e z (ap (λ (x : Bool). outcome x seen m n s o h) (sym t) ∙ w)
 
-    pub filling-broken : b ≡ false → filled_as (refused 8) s o h ≡ factor_filled m n store order bench
-    filling-broken t = filling-worked c e z (ap (λ (x : Bool). outcome x seen m n s o h) (sym t) ∙ w)
+    pub filling_broken : b ≡ false → filled_as (refused 8) s o h ≡ factor_filled m n store order bench
+    filling_broken t = filling_worked c e z (ap (λ (x : Bool). outcome x seen m n s o h) (sym t) ∙ w)

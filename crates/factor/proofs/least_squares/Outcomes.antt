@@ -50,8 +50,8 @@ module _ (st : State) (store : List Float) (order : List ℕ) (shortest : ℕ) w
       }
 
   -- and where more is tested after them
-  pub solvable-before : (xs : List Float) {c : ℕ} → c ≡ first_of (solve_tests st (length store) order shortest ++ (finite_test st xs ∷ [])) → c ≡ 0 → Solvable st store order shortest
-  solvable-before xs e z =
+  pub solvable_before : (xs : List Float) {c : ℕ} → c ≡ first_of (solve_tests st (length store) order shortest ++ (finite_test st xs ∷ [])) → c ≡ 0 → Solvable st store order shortest
+  solvable_before xs e z =
       let ts = solve_tests st (length store) order shortest in
       let us = finite_test st xs ∷ [] in
       solvable (sym ((passed_iff ts refl).1 (none_of_both ts us ((passed_iff (ts ++ us) refl).0 (sym e ∙ z))).0)) refl
@@ -61,8 +61,8 @@ module _ (st : State) (order : List ℕ) (h : Held) (r before : Room) (x out : L
   finite-solved : all_finite x ≡ true → solved_as st order h r x out ≡ solved_if st order h r before x out
   finite-solved e = rw (e, solved_if)
 
-  broken-solved : all_finite x ≡ false → ended (refused 8) (with_held st held.Nothing) (lay (emptied before)) out ≡ solved_if st order h r before x out
-  broken-solved e = rw (e, solved_if)
+  broken_solved : all_finite x ≡ false → ended (refused 8) (with_held st held.Nothing) (lay (emptied before)) out ≡ solved_if st order h r before x out
+  broken_solved e = rw (e, solved_if)
 
 -- one value each for what a call hands back
 same_ended : (a : Reply (Unit {0})) {t t' : State} {s s' o o' : List Float} → t ≡ t' → s ≡ s' → o ≡ o' → ended a t s o ≡ ended a t' s' o'
@@ -74,25 +74,25 @@ module _ (st : State) (order : List ℕ) (store out : List Float) {c : ℕ} (e :
   abbrev zeroed : List Float
   zeroed = zero_solved st.m (load st.n store).upper (load st.n store).qtb
 
-  pub zero-call-refused : (c ≡ 0 → ⊥) → ended (refused c) st store out ≡ zero_call st order store out
+  pub zero_call-refused : (c ≡ 0 → ⊥) → ended (refused c) st store out ≡ zero_call st order store out
   unfolding zero_call
-  zero-call-refused h = call-refused _ (λ k. ended (refused k) st store out) _ c (sym e) (ne_eqb c 0 h)
+  zero_call-refused h = call-refused _ (λ k. ended (refused k) st store out) _ c (sym e) (ne_eqb c 0 h)
 
   module _ {b : Bool} {t : State} {s o : List Float} (z : c ≡ 0) (a : b ≡ all_finite zeroed) where
-    pub zero-call-answered : b ≡ true → t ≡ with_held st held.Zero → s ≡ lay (emptied (load st.n store))
+    pub zero_call-answered : b ≡ true → t ≡ with_held st held.Zero → s ≡ lay (emptied (load st.n store))
         → o ≡ cond b (scatter (take st.n order) zeroed out) out → ended (answered tt) t s o ≡ zero_call st order store out
     unfolding zero_call
-    zero-call-answered y h f g =
+    zero_call-answered y h f g =
         same_ended (answered tt) h f (g ∙ ap (λ (x : Bool). cond x (scatter (take st.n order) zeroed out) out) y)
         ∙ finite-solved st order held.Zero (emptied (load st.n store)) (load st.n store) zeroed out (sym a ∙ y)
         ∙ call-worked _ (λ k. ended (refused k) st store out) _ (sym e ∙ z)
 
-    pub zero-call-broken : b ≡ false → t ≡ with_held st held.Nothing → s ≡ lay (emptied (load st.n store))
+    pub zero_call_broken : b ≡ false → t ≡ with_held st held.Nothing → s ≡ lay (emptied (load st.n store))
         → o ≡ cond b (scatter (take st.n order) zeroed out) out → ended (refused 8) t s o ≡ zero_call st order store out
     unfolding zero_call
-    zero-call-broken y h f g =
+    zero_call_broken y h f g =
         same_ended (refused 8) h f (g ∙ ap (λ (x : Bool). cond x (scatter (take st.n order) zeroed out) out) y)
-        ∙ broken-solved st order held.Zero (emptied (load st.n store)) (load st.n store) zeroed out (sym a ∙ y)
+        ∙ broken_solved st order held.Zero (emptied (load st.n store)) (load st.n store) zeroed out (sym a ∙ y)
         ∙ call-worked _ (λ k. ended (refused k) st store out) _ (sym e ∙ z)
 
 -- ---- the damped solve: 6 is tested last
@@ -103,37 +103,37 @@ module _ (st : State) (diag : List Float) (order : List ℕ) (s o : ℕ) {c : �
   pub damped-stopped : (c ≡ 0 → ⊥) → c ≡ first_of (tests ++ (finite_test st diag ∷ []))
   damped-stopped h = sym (stopped tests (finite_test st diag ∷ []) c e h)
 
-  pub damped-unfit : c ≡ 0 → all_finite (take st.n diag) ≡ false → 6 ≡ first_of (tests ++ (finite_test st diag ∷ []))
-  damped-unfit z b = sym (went_on tests (finite_test st diag ∷ []) c refl e z ∙ test_met (finite_test st diag) [] (rw b))
+  pub damped_unfit : c ≡ 0 → all_finite (take st.n diag) ≡ false → 6 ≡ first_of (tests ++ (finite_test st diag ∷ []))
+  damped_unfit z b = sym (went_on tests (finite_test st diag ∷ []) c refl e z ∙ test_met (finite_test st diag) [] (rw b))
 
-  pub damped-passed : c ≡ 0 → all_finite (take st.n diag) ≡ true → 0 ≡ first_of (tests ++ (finite_test st diag ∷ []))
+  pub damped_passed : c ≡ 0 → all_finite (take st.n diag) ≡ true → 0 ≡ first_of (tests ++ (finite_test st diag ∷ []))
   unfolding first_of
-  damped-passed z b = sym (went_on tests (finite_test st diag ∷ []) c refl e z ∙ test_passed (finite_test st diag) [] (rw b))
+  damped_passed z b = sym (went_on tests (finite_test st diag ∷ []) c refl e z ∙ test_passed (finite_test st diag) [] (rw b))
 
 module _ (st : State) (diag : List Float) (order : List ℕ) (store out : List Float) {c : ℕ}
     (e : c ≡ first_of (solve_tests st (length store) order (min (length diag) (length out)) ++ (finite_test st diag ∷ []))) where
   abbrev reduced : Rows
   reduced = damping_of st.n (gather (take st.n order) diag) store
 
-  pub damped-call-refused : (c ≡ 0 → ⊥) → ended (refused c) st store out ≡ damped_call st diag order store out
+  pub damped_call-refused : (c ≡ 0 → ⊥) → ended (refused c) st store out ≡ damped_call st diag order store out
   unfolding damped_call
-  damped-call-refused h = call-refused _ (λ k. ended (refused k) st store out) _ c (sym e) (ne_eqb c 0 h)
+  damped_call-refused h = call-refused _ (λ k. ended (refused k) st store out) _ c (sym e) (ne_eqb c 0 h)
 
   module _ {b : Bool} {t : State} {s o : List Float} (z : c ≡ 0) (a : b ≡ all_finite (damped_numbers reduced)) where
-    pub damped-call-answered : b ≡ true → t ≡ with_held st held.Damped → s ≡ lay (cond b (damped_room reduced (load st.n store)) (emptied (load st.n store)))
+    pub damped_call-answered : b ≡ true → t ≡ with_held st held.Damped → s ≡ lay (cond b (damped_room reduced (load st.n store)) (emptied (load st.n store)))
         → o ≡ cond b (scatter (take st.n order) (damped_numbers reduced) out) out → ended (answered tt) t s o ≡ damped_call st diag order store out
     unfolding damped_call
-    damped-call-answered y h f g =
+    damped_call-answered y h f g =
         same_ended (answered tt) h (f ∙ ap (λ (x : Bool). lay (cond x (damped_room reduced (load st.n store)) (emptied (load st.n store)))) y)
         (g ∙ ap (λ (x : Bool). cond x (scatter (take st.n order) (damped_numbers reduced) out) out) y)
         ∙ finite-solved st order held.Damped (damped_room reduced (load st.n store)) (load st.n store) (damped_numbers reduced) out (sym a ∙ y)
         ∙ call-worked _ (λ k. ended (refused k) st store out) _ (sym e ∙ z)
 
-    pub damped-call-broken : b ≡ false → t ≡ with_held st held.Nothing → s ≡ lay (cond b (damped_room reduced (load st.n store)) (emptied (load st.n store)))
+    pub damped_call_broken : b ≡ false → t ≡ with_held st held.Nothing → s ≡ lay (cond b (damped_room reduced (load st.n store)) (emptied (load st.n store)))
         → o ≡ cond b (scatter (take st.n order) (damped_numbers reduced) out) out → ended (refused 8) t s o ≡ damped_call st diag order store out
     unfolding damped_call
-    damped-call-broken y h f g =
+    damped_call_broken y h f g =
         same_ended (refused 8) h (f ∙ ap (λ (x : Bool). lay (cond x (damped_room reduced (load st.n store)) (emptied (load st.n store)))) y)
         (g ∙ ap (λ (x : Bool). cond x (scatter (take st.n order) (damped_numbers reduced) out) out) y)
-        ∙ broken-solved st order held.Damped (damped_room reduced (load st.n store)) (load st.n store) (damped_numbers reduced) out (sym a ∙ y)
+        ∙ broken_solved st order held.Damped (damped_room reduced (load st.n store)) (load st.n store) (damped_numbers reduced) out (sym a ∙ y)
         ∙ call-worked _ (λ k. ended (refused k) st store out) _ (sym e ∙ z)

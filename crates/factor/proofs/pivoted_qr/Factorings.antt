@@ -31,6 +31,6 @@ module _ (m n : ℕ) (jacobian residuals store : List Float) (order : List ℕ) 
       → outcome b seen m n s o h ≡ factor_worked m n jacobian residuals store order bench → outcome true seen m n s o h ≡ factor_call m n jacobian residuals store order bench
   factoring-answered c b seen s o h e z t w = factoring-worked c e z (ap (λ (x : Bool). outcome x seen m n s o h) (sym t) ∙ w)
 
-  pub factoring-broken : (c : ℕ) (b : Bool) (seen : Ranges) (s : List Float) (o : List ℕ) (h : List Float) → c ≡ tests → c ≡ 0 → b ≡ false
+  pub factoring_broken : (c : ℕ) (b : Bool) (seen : Ranges) (s : List Float) (o : List ℕ) (h : List Float) → c ≡ tests → c ≡ 0 → b ≡ false
       → outcome b seen m n s o h ≡ factor_worked m n jacobian residuals store order bench → outcome false seen m n s o h ≡ factor_call m n jacobian residuals store order bench
-  factoring-broken c b seen s o h e z t w = factoring-worked c e z (ap (λ (x : Bool). outcome x seen m n s o h) (sym t) ∙ w)
+  factoring_broken c b seen s o h e z t w = factoring-worked c e z (ap (λ (x : Bool). outcome x seen m n s o h) (sym t) ∙ w)

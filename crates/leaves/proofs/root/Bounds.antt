@@ -11,7 +11,7 @@ use lib.Ieee.{size}
 use lib.Ieee.Digits.{size-lt, size-le, size_reaches}
 use Rattle.leaves.specs.Root.{half_exp, scaled, near_root}
 use Rattle.leaves.specs.inner.Parts.{magnitude, Normed}
-use Rattle.leaves.proofs.root.Scaled.{normed_low, normed_high, half_is, scaled-even, scaled-odd}
+use Rattle.leaves.proofs.root.Scaled.{normed_low, normed_high, half_is, scaled_even, scaled_odd}
 use Rattle.leaves.proofs.root.Whole.{near_bounds}
 
 -- a number of at most 52 digits, moved up to 53
@@ -48,8 +48,8 @@ pub digits_of : (n t z : ℕ) → Normed n t z → (v : ℕ) × (scaled n ≡ v 
 digits_of n t z r = go (eqb ((z + 969) % 2) 0) (eqb→eq ((z + 969) % 2) 0) (λ (e : (z + 969) % 2 ≡ 0). eq→eqb e)
   where
     go : (c : Bool) → (T c → (z + 969) % 2 ≡ 0) → ((z + 969) % 2 ≡ 0 → T c) → (v : ℕ) × (scaled n ≡ v * 2 ^ 52) × (2 ^ 52 ≤ v) × (v + 1 < 2 ^ 54)
-    go true y k = (t, scaled-even n t z r (y tt), r.low, omega (arith, r.high))
-    go false y k = (t * 2, scaled-odd n t z r k, omega (arith, r.low), omega (arith, r.high))
+    go true y k = (t, scaled_even n t z r (y tt), r.low, omega (arith, r.high))
+    go false y k = (t * 2, scaled_odd n t z r k, omega (arith, r.low), omega (arith, r.high))
 
 pub half_lt : (n t z : ℕ) → Normed n t z → half_exp n < 2046
 half_lt n t z r = subst (λ (x : ℕ). x < 2046) (sym (half_is n t z r)) (less r.most)

@@ -16,7 +16,7 @@ use lib.Ieee.Exact.{HasValue, odd_sign}
 use Rattle.leaves.specs.Number.{plus_zero}
 use Rattle.leaves.specs.Root.{root_s, near_root, scaled, half_exp, units_of}
 use Rattle.leaves.specs.inner.Parts.{magnitude}
-use Rattle.leaves.proofs.root.Scaled.{scaled-whole}
+use Rattle.leaves.proofs.root.Scaled.{scaled_whole}
 use Rattle.leaves.proofs.root.Bounds.{normed_of, digits_of, Room, room}
 use Rattle.leaves.proofs.root.Whole.{Closest, near_closest, closest_unique}
 use Rattle.leaves.proofs.root.Floats.{below_zero, negative_below}
@@ -112,7 +112,7 @@ rounded m e f =
     let q = near_root (scaled n) in
     let c = near_closest (scaled n) (omega arith) hi in
     let t : n * 2 ^ 1074 ≡ scaled n * (2 ^ j * 2 ^ j) =
-    subst (λ (y : ℕ). y * 2 ^ 1074 ≡ scaled y * 4 ^ half_exp y) (sym r.1) (scaled-whole (magnitude b) g.0 g.1 g.2) ∙ ap (λ (y : ℕ). scaled n * y) (four_square j) in
+    subst (λ (y : ℕ). y * 2 ^ 1074 ≡ scaled y * 4 ^ half_exp y) (sym r.1) (scaled_whole (magnitude b) g.0 g.1 g.2) ∙ ap (λ (y : ℕ). scaled n * y) (four_square j) in
     record {
       S = scaled n;
       k = minus j 1074;
@@ -201,7 +201,7 @@ rounded_unique m e r t a b =
     let h = across_is (suc m * up e) (down e) a.S b.S (up a.k) (down a.k) (up b.k) (down b.k) (down_pos e) a.argument.1 b.argument.1 in
     let w = one_way a.S b.S a.k b.k a.low b.low a.high b.high h in
     let q : a.q ≡ b.q = closest_unique a.q b.q b.S (subst (λ (y : ℕ). Closest y a.q) w.0 (a.above, a.below)) (b.above, b.below) in
-    let some : 0 < a.q * up a.k = mul-pos (some-root a.q a.S a.low a.below) (up_pos a.k) in
+    let some : 0 < a.q * up a.k = mul-pos (some_root a.q a.S a.low a.below) (up_pos a.k) in
     same_value r t false (a.q * up a.k) (down a.k) some (down_pos a.k) a.held b.held a.answer
     (as_fraction t false (b.q * up b.k) (down b.k) (a.q * up a.k) (down a.k) (down_pos b.k)
     (group b.q (up b.k) (down a.k) ∙ ap (λ (x : ℕ). x * (up b.k * down a.k)) (sym q) ∙ ap (λ (x : ℕ). a.q * x) (sym w.1) ∙ sym (group a.q (up a.k) (down b.k)))
@@ -210,9 +210,9 @@ rounded_unique m e r t a b =
     group : (x y z : ℕ) → x * y * z ≡ x * (y * z)
     group x y z = omega arith
 
-    some-root : (q S : ℕ) → 2 ^ 104 ≤ S → 4 * S < (2 * q + 1) * (2 * q + 1) → 0 < q
-    some-root zero S l h = omega arith
-    some-root (suc q) S l h = zero-lt-suc q
+    some_root : (q S : ℕ) → 2 ^ 104 ≤ S → 4 * S < (2 * q + 1) * (2 * q + 1) → 0 < q
+    some_root zero S l h = omega arith
+    some_root (suc q) S l h = zero-lt-suc q
 
 pub sqrt_unique : (x r t : Float) → IsRoot x r → IsRoot x t → r ≡ t
 sqrt_unique nan r t a b = a.of_nan refl ∙ sym (b.of_nan refl)

@@ -40,17 +40,17 @@ fields_say s zero t m e h p =
     (r.0, zero-lt-suc 2046, inl (refl, r.1 ∙ mul-one t))
 fields_say s (suc x) t m e h p = go (eqb (suc x) 2047) (eqb→eq (suc x) 2047) (λ (l : suc x ≡ 2047). eq→eqb l) p
   where
-    pred-is : suc x - 1 ≡ x
-    pred-is = omega arith
+    pred_is : suc x - 1 ≡ x
+    pred_is = omega arith
 
-    low-enough : (suc x ≡ 2047 → ⊥) → suc x < 2047
-    low-enough n = omega arith
+    low_enough : (suc x ≡ 2047 → ⊥) → suc x < 2047
+    low_enough n = omega arith
 
     go : (b : Bool) → (T b → suc x ≡ 2047) → (suc x ≡ 2047 → T b) → cond b (cond (eqb t 0) (inf s) nan) (odd 53 s (2 ^ 52 + t) x 1074) ≡ fin false m e → Says s (suc x) t m e
     go true y n q = absurd (no_special (eqb t 0) s m e q)
     go false y n q =
         let r = odd_units s (2 ^ 52 + t) x m e q in
-        (r.0, low-enough n, inr (zero-lt-suc x, r.1 ∙ ap (λ (z : ℕ). (2 ^ 52 + t) * 2 ^ z) (sym pred-is)))
+        (r.0, low_enough n, inr (zero-lt-suc x, r.1 ∙ ap (λ (z : ℕ). (2 ^ 52 + t) * 2 ^ z) (sym pred_is)))
 
 -- what its pattern b says of a finite value above zero
 unfoldable pub Read : ℕ → ℕ → ℤ → Type 0

@@ -96,30 +96,30 @@ module _ (n t z : ℕ) (r : Normed n t z) where
   whole : (v j i : ℕ) → z + 1021 ≡ i + (j + j) → v * 2 ^ 52 ≡ t * 2 ^ i → n * 2 ^ 1074 / 4 ^ j ≡ v * 2 ^ 52
   whole v j i e d = ap (λ (x : ℕ). x / 4 ^ j) (product v j i e d) ∙ mul-div_cancel (v * 2 ^ 52) (four_pos j)
 
-  pub scaled-even : (z + 969) % 2 ≡ 0 → scaled n ≡ t * 2 ^ 52
+  pub scaled_even : (z + 969) % 2 ≡ 0 → scaled n ≡ t * 2 ^ 52
   unfolding scaled
-  scaled-even e = ap (λ (x : ℕ). n * 2 ^ 1074 / 4 ^ x) half_is ∙ whole t ((z + 969) / 2) 52 (omega arith) refl
+  scaled_even e = ap (λ (x : ℕ). n * 2 ^ 1074 / 4 ^ x) half_is ∙ whole t ((z + 969) / 2) 52 (omega arith) refl
 
-  pub scaled-odd : ((z + 969) % 2 ≡ 0 → ⊥) → scaled n ≡ t * 2 * 2 ^ 52
+  pub scaled_odd : ((z + 969) % 2 ≡ 0 → ⊥) → scaled n ≡ t * 2 * 2 ^ 52
   unfolding scaled
-  scaled-odd e = ap (λ (x : ℕ). n * 2 ^ 1074 / 4 ^ x) half_is ∙ whole (t * 2) ((z + 969) / 2) 53 (omega arith) (omega arith)
+  scaled_odd e = ap (λ (x : ℕ). n * 2 ^ 1074 / 4 ^ x) half_is ∙ whole (t * 2) ((z + 969) / 2) 53 (omega arith) (omega arith)
 
   -- the same by the code's shifts: `x << k` is x * 2 ^ k % 2 ^ 64, and no number here reaches 2 ^ 64
   pub shifted_even : (z + 969) / 2 * 2 % 2 ^ 64 ≡ z + 969 → scaled n ≡ t * 2 ^ 52
-  shifted_even e = scaled-even (omega (arith, r.most))
+  shifted_even e = scaled_even (omega (arith, r.most))
 
-  pub shifted-odd : ((z + 969) / 2 * 2 % 2 ^ 64 ≡ z + 969 → ⊥) → scaled n ≡ t * 2 % 2 ^ 64 * 2 ^ 52
-  shifted-odd e =
+  pub shifted_odd : ((z + 969) / 2 * 2 % 2 ^ 64 ≡ z + 969 → ⊥) → scaled n ≡ t * 2 % 2 ^ 64 * 2 ^ 52
+  shifted_odd e =
       let d : t * 2 % 2 ^ 64 ≡ t * 2 = omega (arith, r.high) in
-      rw d (scaled-odd (λ (p : (z + 969) % 2 ≡ 0). e (again p)))
+      rw d (scaled_odd (λ (p : (z + 969) % 2 ≡ 0). e (again p)))
     where
       again : (z + 969) % 2 ≡ 0 → (z + 969) / 2 * 2 % 2 ^ 64 ≡ z + 969
       again p = omega (arith, r.most)
 
   -- nothing is cut off
-  pub scaled-whole : n * 2 ^ 1074 ≡ scaled n * 4 ^ half_exp n
+  pub scaled_whole : n * 2 ^ 1074 ≡ scaled n * 4 ^ half_exp n
   unfolding scaled
-  scaled-whole = subst (λ (j : ℕ). n * 2 ^ 1074 ≡ n * 2 ^ 1074 / 4 ^ j * 4 ^ j) (sym half_is) (go (eqb ((z + 969) % 2) 0) (eqb→eq ((z + 969) % 2) 0) (λ (e : (z + 969) % 2 ≡ 0). eq→eqb e))
+  scaled_whole = subst (λ (j : ℕ). n * 2 ^ 1074 ≡ n * 2 ^ 1074 / 4 ^ j * 4 ^ j) (sym half_is) (go (eqb ((z + 969) % 2) 0) (eqb→eq ((z + 969) % 2) 0) (λ (e : (z + 969) % 2 ≡ 0). eq→eqb e))
     where
       j : ℕ
       j = (z + 969) / 2

@@ -32,10 +32,10 @@ module _ (v : List Float) (i : ℕ) (bad : Bool) where
   abbrev top : Float
   top = of_bits binary64 0x7ff0_0000_0000_0000
 
-  pub finite-turn : i < length v
+  pub finite_turn : i < length v
       → (not (bad || not (lt (neg top) (get_or v i nan) && lt (get_or v i nan) top)) && all_finite (drop (i + 1) v)) ≡ (not bad && all_finite (drop i v))
   unfolding all_finite of_bits neg
-  finite-turn h = rw (between_tops (get_or v i nan), add-one, drop-cons v i nan h) (turn bad (is_finite (get_or v i nan)) (all_finite (drop (suc i) v)))
+  finite_turn h = rw (between_tops (get_or v i nan), add-one, drop-cons v i nan h) (turn bad (is_finite (get_or v i nan)) (all_finite (drop (suc i) v)))
 
   pub finite-end : length v ≤ i → (not bad && all_finite (drop i v)) ≡ all_finite v → not bad ≡ all_finite v
   unfolding all_finite

@@ -17,9 +17,9 @@ module _ (s : List ℕ) (at : ℕ) (q : Read) where
   unfolding word_at
   word_is f n p e d = rw d (rw (← p, e, word_at))
 
-  pub word-not : q ≡ read_from at 0 at (drop at s) → q ≡ read.Refused → record { value = 0; next = at; good = false } ≡ word_at s at
+  pub word_not : q ≡ read_from at 0 at (drop at s) → q ≡ read.Refused → record { value = 0; next = at; good = false } ≡ word_at s at
   unfolding word_at
-  word-not p e = rw (← p, e, word_at)
+  word_not p e = rw (← p, e, word_at)
 
 -- nothing was read, and nothing is a part of every list
 pub nothing : (x : Span) (at : ℕ) (large : Bool) (l : List Float) → x ≡ none at large → Part x.len l
@@ -31,22 +31,22 @@ module _ (s : List ℕ) (at len : ℕ) (room₀ : List Float) where
   unfolding doubles_at
   too_many x e h = rw (e, lt-ltb _ _ h, doubles_at)
 
-  pub rest-start : len ≤ length room₀ → rest_from s at len (len - 0) 0 at room₀ ≡ doubles_at s at len room₀
+  pub rest_start : len ≤ length room₀ → rest_from s at len (len - 0) 0 at room₀ ≡ doubles_at s at len room₀
   unfolding doubles_at
-  rest-start h = let u : len - 0 ≡ len = omega arith in rw (u, le-ltb _ _ h, doubles_at)
+  rest_start h = let u : len - 0 ≡ len = omega arith in rw (u, le-ltb _ _ h, doubles_at)
 
 module _ (s : List ℕ) (at len i next : ℕ) (room : List Float) (r : Span × List Float) where
-  pub rest-stop : (w : Number) (x : Span) → i < len → w ≡ word_at s next → w.good ≡ false → x ≡ none at false → rest_from s at len (len - i) i next room ≡ r → (x, room) ≡ r
+  pub rest_stop : (w : Number) (x : Span) → i < len → w ≡ word_at s next → w.good ≡ false → x ≡ none at false → rest_from s at len (len - i) i next room ≡ r → (x, room) ≡ r
   unfolding rest_from
-  rest-stop w x h e g d p =
+  rest_stop w x h e g d p =
       let u : len - i ≡ suc (len - suc i) = omega arith in
       let f : (word_at s next).good ≡ false = rw e at g in
       rw d (rw (f, rest_from) at (rw u at p))
 
-  pub rest-go : (w : Number) (x : Float) → i < len → w ≡ word_at s next → w.good ≡ true → x ≡ of_bits binary64 w.value → rest_from s at len (len - i) i next room ≡ r
+  pub rest_go : (w : Number) (x : Float) → i < len → w ≡ word_at s next → w.good ≡ true → x ≡ of_bits binary64 w.value → rest_from s at len (len - i) i next room ≡ r
       → rest_from s at len (len - (i + 1)) (i + 1) w.next (set room i x) ≡ r
   unfolding rest_from
-  rest-go w x h e g d p =
+  rest_go w x h e g d p =
       let u : len - i ≡ suc (len - suc i) = omega arith in
       let f : (word_at s next).good ≡ true = rw e at g in
       rw (add-one, d, e) (rw (f, rest_from) at (rw u at p))
@@ -57,10 +57,10 @@ module _ (s : List ℕ) (at len i next : ℕ) (room : List Float) (r : Span × L
 
 -- ---- a vector by its length
 module _ (s : List ℕ) (at : ℕ) (room : List Float) (w : Number) where
-  pub vector-is : (q : Span × List Float) → w ≡ word_at s at → w.good ≡ true → q ≡ doubles_at s w.next w.value room → q ≡ vector_at s at room
+  pub vector_is : (q : Span × List Float) → w ≡ word_at s at → w.good ≡ true → q ≡ doubles_at s w.next w.value room → q ≡ vector_at s at room
   unfolding vector_at
-  vector-is q e g d = let f : (word_at s at).good ≡ true = rw e at g in rw (f, vector_at) (rw e at d)
+  vector_is q e g d = let f : (word_at s at).good ≡ true = rw e at g in rw (f, vector_at) (rw e at d)
 
-  pub vector-not : (x : Span) → w ≡ word_at s at → w.good ≡ false → x ≡ none at false → (x, room) ≡ vector_at s at room
+  pub vector_not : (x : Span) → w ≡ word_at s at → w.good ≡ false → x ≡ none at false → (x, room) ≡ vector_at s at room
   unfolding vector_at
-  vector-not x e g d = let f : (word_at s at).good ≡ false = rw e at g in rw (d, f, vector_at)
+  vector_not x e g d = let f : (word_at s at).good ≡ false = rw e at g in rw (d, f, vector_at)

@@ -22,7 +22,7 @@ use Rattle.leaves.specs.Product.{divided_by}
 use Rattle.factor.specs.Solve.{gather}
 use Rattle.factor.proofs.Solves.{gather_at, gather-length}
 use Rattle.measures.specs.Gradient.{measures, largest, above, combined, jx_norm_of, jx_ranges}
-use Rattle.leaves.proofs.Squares.{upper-at, upper_long, uppers_of-length}
+use Rattle.leaves.proofs.Squares.{upper_at, upper_long, uppers_of-length}
 use Rattle.leaves.specs.inner.Squares.{Square}
 
 -- what a test by `!=` says
@@ -59,26 +59,26 @@ module _ (b : List Float) (n : ℕ) (s ss : List Float) (q : Square n s) (j : �
   us = uppers_of n s
 
   -- from column j on, with that column taken apart
-  from-column : measures b (drop j us) (drop j ss) ≡ measures b (get_or us j [] ∷ drop (suc j) us) (get_or ss j nan ∷ drop (suc j) ss)
-  from-column =
+  from_column : measures b (drop j us) (drop j ss) ≡ measures b (get_or us j [] ∷ drop (suc j) us) (get_or ss j nan ∷ drop (suc j) ss)
+  from_column =
       let l : length us ≡ n = uppers_of-length n s in
       let e : j < length us = omega arith in
       rw (drop-cons us j [] e, drop-cons ss j nan (omega arith))
 
-  measures-skip : eq (get_or ss j nan) plus_zero ≡ true → measures b (drop (j + 1) us) (drop (j + 1) ss) ≡ measures b (drop j us) (drop j ss)
+  measures_skip : eq (get_or ss j nan) plus_zero ≡ true → measures b (drop (j + 1) us) (drop (j + 1) ss) ≡ measures b (drop j us) (drop j ss)
   unfolding measures
-  measures-skip t = rw (from-column, add-one, t, measures)
+  measures_skip t = rw (from_column, add-one, t, measures)
 
   measures-more : eq (get_or ss j nan) plus_zero ≡ false
       → measures b (drop j us) (drop j ss) ≡ measured b us j (get_or ss j nan) ∷ measures b (drop (j + 1) us) (drop (j + 1) ss)
   unfolding measures
-  measures-more t = rw (from-column, add-one, t, upper_long n s q j h, measures)
+  measures-more t = rw (from_column, add-one, t, upper_long n s q j h, measures)
 
 -- the measure of column j from its product with the first j + 1 of b
 pub measure_is : (n : ℕ) (s b : List Float) (x : Float) (q : Square n s) (j : ℕ) (h : j < n) {d : Float}
     → d ≡ dot_of (take (j * n + (j + 1) - j * n) (drop (j * n) s)) (take (j + 1) b)
     → abs_of (div binary64 d x) ≡ abs_of (div binary64 (dot_of (get_or (uppers_of n s) j []) (take (suc j) b)) x)
-measure_is n s b x q j h e = let d : j * n + (j + 1) - j * n ≡ suc j = omega arith in rw (e, d, upper-at n s q j h, add-one)
+measure_is n s b x q j h e = let d : j * n + (j + 1) - j * n ≡ suc j = omega arith in rw (e, d, upper_at n s q j h, add-one)
 
 largest_nan : (top x : Float) (xs : List Float) → ne x x ≡ true → refused 8 ≡ largest top (x ∷ xs)
 unfolding largest
@@ -132,25 +132,25 @@ module _ (b : List Float) (n : ℕ) (s : List Float) (order : List ℕ) (norms :
       ∙ ap (λ (x : Float). measured b (uppers_of n s) j x ∷ from (j + 1)) (sym here)
 
   skipped : ne v plus_zero ≡ false → from (j + 1) ≡ from j
-  skipped t = measures-skip b n s ss q j h gathered (ap (λ (x : Float). eq x plus_zero) (sym here) ∙ ne_false _ _ t)
+  skipped t = measures_skip b n s ss q j h gathered (ap (λ (x : Float). eq x plus_zero) (sym here) ∙ ne_false _ _ t)
 
-  pub gradient-skip : (top : Float) → ne v plus_zero ≡ false → largest top (from (j + 1)) ≡ largest top (from j)
-  gradient-skip top t = ap (largest top) (skipped t)
+  pub gradient_skip : (top : Float) → ne v plus_zero ≡ false → largest top (from (j + 1)) ≡ largest top (from j)
+  gradient_skip top t = ap (largest top) (skipped t)
 
-  pub gradient-nan : (top x : Float) → ne v plus_zero ≡ true → x ≡ measured b (uppers_of n s) j v → ne x x ≡ true → refused 8 ≡ largest top (from j)
-  gradient-nan top x t e r = rw (more t, ← e) (largest_nan top x _ r)
+  pub gradient_nan : (top x : Float) → ne v plus_zero ≡ true → x ≡ measured b (uppers_of n s) j v → ne x x ≡ true → refused 8 ≡ largest top (from j)
+  gradient_nan top x t e r = rw (more t, ← e) (largest_nan top x _ r)
 
   pub gradient-more : (top x : Float) → ne v plus_zero ≡ true → x ≡ measured b (uppers_of n s) j v → ne x x ≡ false → largest (max_of top x) (from (j + 1)) ≡ largest top (from j)
   gradient-more top x t e r = rw (more t, ← e) (largest-more top x _ r)
 
-  pub above-skip : (limit : Float) → ne v plus_zero ≡ false → above limit (from (j + 1)) ≡ above limit (from j)
-  above-skip limit t = ap (above limit) (skipped t)
+  pub above_skip : (limit : Float) → ne v plus_zero ≡ false → above limit (from (j + 1)) ≡ above limit (from j)
+  above_skip limit t = ap (above limit) (skipped t)
 
-  pub above-eight : (limit x : Float) → ne v plus_zero ≡ true → x ≡ measured b (uppers_of n s) j v → is_finite x ≡ false → refused 8 ≡ above limit (from j)
-  above-eight limit x t e r = rw (more t, ← e) (above_not limit x _ r)
+  pub above_eight : (limit x : Float) → ne v plus_zero ≡ true → x ≡ measured b (uppers_of n s) j v → is_finite x ≡ false → refused 8 ≡ above limit (from j)
+  above_eight limit x t e r = rw (more t, ← e) (above_not limit x _ r)
 
-  pub above-yes : (limit x : Float) → ne v plus_zero ≡ true → x ≡ measured b (uppers_of n s) j v → is_finite x ≡ true → lt limit x ≡ true → answered true ≡ above limit (from j)
-  above-yes limit x t e r k = rw (more t, ← e) (above_is limit x _ r k)
+  pub above_yes : (limit x : Float) → ne v plus_zero ≡ true → x ≡ measured b (uppers_of n s) j v → is_finite x ≡ true → lt limit x ≡ true → answered true ≡ above limit (from j)
+  above_yes limit x t e r k = rw (more t, ← e) (above_is limit x _ r k)
 
   pub above_more : (limit x : Float) → ne v plus_zero ≡ true → x ≡ measured b (uppers_of n s) j v → is_finite x ≡ true → lt limit x ≡ false
       → above limit (from (j + 1)) ≡ above limit (from j)
@@ -177,7 +177,7 @@ pub column_added : (n : ℕ) (s w l : List Float) (a : Float) (q : Square n s) (
 column_added n s w l a q i h e =
     let d : i * n + (i + 1) - i * n ≡ suc i = omega arith in
     let long : length (get_or (uppers_of n s) i []) ≡ suc i = upper_long n s q i h in
-    let is : l ≡ axpy_all a (get_or (uppers_of n s) i []) (take (suc i) w) = e ∙ rw (d, upper-at n s q i h, add-one) in
+    let is : l ≡ axpy_all a (get_or (uppers_of n s) i []) (take (suc i) w) = e ∙ rw (d, upper_at n s q i h, add-one) in
     rw (is, add-one, ← long) (axpy_front a (get_or (uppers_of n s) i []) w)
 
 combined_step : (w : List Float) (us : List (List Float)) (xs : List Float) (i : ℕ) → i < length us → i < length xs
@@ -205,10 +205,10 @@ module _ (n : ℕ) (s xs w : List Float) {w₁ w₂ : List Float} (h : length w 
   product : w₂ ≡ combined (zeros (length (uppers_of n s))) (uppers_of n s) xs
   product = rw (f, e, h, uppers_of-length n s)
 
-  pub jx-is : norm w₂ ≡ jx_norm_of xs (uppers_of n s)
+  pub jx_is : norm w₂ ≡ jx_norm_of xs (uppers_of n s)
   unfolding jx_norm_of
-  jx-is = ap norm product
+  jx_is = ap norm product
 
-  pub jx-seen : ranges w₂ ≡ jx_ranges xs (uppers_of n s)
+  pub jx_seen : ranges w₂ ≡ jx_ranges xs (uppers_of n s)
   unfolding jx_ranges
-  jx-seen = ap ranges product
+  jx_seen = ap ranges product

@@ -30,17 +30,17 @@ unfolding leading
 leading-cons limit d ds b t = ap (λ (x : Bool). cond x (d ∷ leading limit ds) []) t
 
 module _ (limit : Float) (ds : List Float) (k : ℕ) (h : k < length ds) (d : Float) (e : d ≡ get_or ds k nan) where
-  from-here : drop k ds ≡ d ∷ drop (suc k) ds
-  from-here = drop-cons ds k nan h ∙ ap (λ (x : Float). x ∷ drop (suc k) ds) (sym e)
+  from_here : drop k ds ≡ d ∷ drop (suc k) ds
+  from_here = drop-cons ds k nan h ∙ ap (λ (x : Float). x ∷ drop (suc k) ds) (sym e)
 
   pub leading-stop : lt limit (abs_of d) ≡ false → k ≡ k + length (leading limit (drop k ds))
   leading-stop t =
-      let q : length (leading limit (drop k ds)) ≡ 0 = ap (λ (l : List Float). length (leading limit l)) from-here ∙ ap length (leading-cons limit d (drop (suc k) ds) false t) in
+      let q : length (leading limit (drop k ds)) ≡ 0 = ap (λ (l : List Float). length (leading limit l)) from_here ∙ ap length (leading-cons limit d (drop (suc k) ds) false t) in
       omega arith
 
-  pub leading-go : lt limit (abs_of d) ≡ true → k + 1 + length (leading limit (drop (k + 1) ds)) ≡ k + length (leading limit (drop k ds))
-  leading-go t =
-      let q : length (leading limit (drop k ds)) ≡ suc (length (leading limit (drop (suc k) ds))) = ap (λ (l : List Float). length (leading limit l)) from-here ∙ ap length (leading-cons limit d (drop (suc k) ds) true t) in
+  pub leading_go : lt limit (abs_of d) ≡ true → k + 1 + length (leading limit (drop (k + 1) ds)) ≡ k + length (leading limit (drop k ds))
+  leading_go t =
+      let q : length (leading limit (drop k ds)) ≡ suc (length (leading limit (drop (suc k) ds))) = ap (λ (l : List Float). length (leading limit l)) from_here ∙ ap length (leading-cons limit d (drop (suc k) ds) true t) in
       rw add-one (omega arith)
 
 pub leading_end : (limit : Float) (ds : List Float) (k : ℕ) → length ds ≤ k → k ≡ k + length (leading limit (drop k ds))
@@ -78,11 +78,11 @@ module _ (m : ℕ) (upper : List (List Float)) where
   abbrev limit : Float
   limit = limit_of m (length upper) (get_or (diagonal upper) 0 nan)
 
-  pub determined-leads :
+  pub determined_leads :
       ((i : ℕ) → i < determined_of m upper → lt limit (abs_of (get_or places i nan)) ≡ true)
       × (determined_of m upper < length places → lt limit (abs_of (get_or places (determined_of m upper) nan)) ≡ false)
   unfolding determined_of
-  determined-leads = (leads_before limit places, leads_at limit places)
+  determined_leads = (leads_before limit places, leads_at limit places)
 
 -- ---- at most the rank: what is greater than a limit that is not below zero is not zero
 not_above-zero : {x : Float} (s : Bool) (e : ℤ) → Side x → lt x (abs_of (fin s 0 e)) ≡ false

@@ -55,15 +55,15 @@ later_turn ss ds d i h k e =
 
 -- ---- a start by its tests
 module _ (t : Start) {a : Bool} (ea : a ≡ is_finite t.xnorm) where
-  pub no-xnorm : not a ≡ true → false ≡ usable t
-  no-xnorm h = rw (sym ea ∙ not-true _ h)
+  pub no_xnorm : not a ≡ true → false ≡ usable t
+  no_xnorm h = rw (sym ea ∙ not-true _ h)
 
-  pub no-radius : {b : Bool} → not a ≡ false → b ≡ is_finite t.radius → not b ≡ true → false ≡ usable t
-  no-radius h eb k = rw (sym ea ∙ not-false _ h, sym eb ∙ not-true _ k)
+  pub no_radius : {b : Bool} → not a ≡ false → b ≡ is_finite t.radius → not b ≡ true → false ≡ usable t
+  no_radius h eb k = rw (sym ea ∙ not-false _ h, sym eb ∙ not-true _ k)
 
-  pub by-radius : {b : Bool} → not a ≡ false → b ≡ is_finite t.radius → not b ≡ false → ne t.radius plus_zero ≡ usable t
+  pub by_radius : {b : Bool} → not a ≡ false → b ≡ is_finite t.radius → not b ≡ false → ne t.radius plus_zero ≡ usable t
   unfolding ne
-  by-radius h eb k = rw (sym ea ∙ not-false _ h, sym eb ∙ not-false _ k)
+  by_radius h eb k = rw (sym ea ∙ not-false _ h, sym eb ∙ not-false _ k)
 
 -- ---- the whole call by its tests
 given : (ok : Bool) (a : Scaled) (new old : List Float) → ok ≡ true → (answered a, new) ≡ or_refused ok a new old
@@ -91,13 +91,13 @@ module _ (n : ℕ) (norms diag x : List Float) (bound : Float) {t : Start} {b : 
   abbrev tested : b ≡ usable (start_by bound (norm (take n x)))
   tested = eb ∙ ap usable et
 
-  pub unscaled-given : {seen : Ranges} → seen ≡ ranges (take n x) → b ≡ true → (answered (first t seen), diag) ≡ rescaled mode.FirstUnscaled n norms diag x bound
+  pub unscaled_given : {seen : Ranges} → seen ≡ ranges (take n x) → b ≡ true → (answered (first t seen), diag) ≡ rescaled mode.FirstUnscaled n norms diag x bound
   unfolding rescaled
-  unscaled-given es h = ap (λ (a : Scaled). with a diag) (firsts bound (take n x) et es) ∙ given _ (first_on bound (take n x)) diag diag (sym tested ∙ h)
+  unscaled_given es h = ap (λ (a : Scaled). with a diag) (firsts bound (take n x) et es) ∙ given _ (first_on bound (take n x)) diag diag (sym tested ∙ h)
 
-  pub unscaled-refused : b ≡ false → (refused 8, diag) ≡ rescaled mode.FirstUnscaled n norms diag x bound
+  pub unscaled_refused : b ≡ false → (refused 8, diag) ≡ rescaled mode.FirstUnscaled n norms diag x bound
   unfolding rescaled
-  unscaled-refused h = refusing _ (first_on bound (take n x)) diag diag (sym tested ∙ h)
+  unscaled_refused h = refusing _ (first_on bound (take n x)) diag diag (sym tested ∙ h)
 
 -- the first scaled mode: d holds the new entries, t the start by them, a and b what the tests gave
 module _ (n : ℕ) (norms diag x : List Float) (bound : Float) {d : List Float} {t : Start} {a : Bool} (k : length norms ≡ n)
@@ -120,9 +120,9 @@ module _ (n : ℕ) (norms diag x : List Float) (bound : Float) {d : List Float} 
   all : a ≡ all_finite (first_scaling norms)
   all = ea ∙ ap all_finite ed
 
-  pub first-refused : not a ≡ true → (refused 8, diag) ≡ rescaled mode.FirstScaled n norms diag x bound
+  pub first_refused : not a ≡ true → (refused 8, diag) ≡ rescaled mode.FirstScaled n norms diag x bound
   unfolding rescaled
-  first-refused h = refusing _ answer (written (first_scaling norms) diag) diag (ap (λ (o : Bool). o && usable start) (sym all ∙ not-true _ h))
+  first_refused h = refusing _ answer (written (first_scaling norms) diag) diag (ap (λ (o : Bool). o && usable start) (sym all ∙ not-true _ h))
 
   both : {b : Bool} → not a ≡ false → b ≡ usable t → (all_finite (first_scaling norms) && usable start) ≡ b
   both h eb = ap (λ (o : Bool). o && usable start) (sym all ∙ not-false _ h) ∙ sym (eb ∙ ap usable starts)
@@ -131,10 +131,10 @@ module _ (n : ℕ) (norms diag x : List Float) (bound : Float) {d : List Float} 
   unfolding rescaled
   start-refused h eb g = refusing _ answer (written (first_scaling norms) diag) diag (both h eb ∙ not-true _ g)
 
-  pub first-given : {b : Bool} {seen : Ranges} (l : List Float) → seen ≡ ranges (product_all d (take n x)) → not a ≡ false → b ≡ usable t → not b ≡ false → l ≡ d
+  pub first_given : {b : Bool} {seen : Ranges} (l : List Float) → seen ≡ ranges (product_all d (take n x)) → not a ≡ false → b ≡ usable t → not b ≡ false → l ≡ d
       → (answered (first t seen), l ++ drop n diag) ≡ rescaled mode.FirstScaled n norms diag x bound
   unfolding rescaled
-  first-given l es h eb g el =
+  first_given l es h eb g el =
       let saw = es ∙ ap (λ (z : List Float). ranges (products z)) ed in
       laid n diag (firsts bound (products (first_scaling norms)) starts saw) (el ∙ ed) entries
       ∙ given _ answer (written (first_scaling norms) diag) diag (both h eb ∙ not-false _ g)
@@ -158,10 +158,10 @@ module _ (n : ℕ) (norms diag : List Float) {o d : List Float} {a : Bool} (k : 
   unfolding rescaled
   later-refused h = refusing _ (later neither) (written news diag) diag (sym every ∙ not-true _ h)
 
-  pub later-given : {seen : Ranges} (l : List Float) → seen ≡ neither → not a ≡ false → l ≡ d
+  pub later_given : {seen : Ranges} (l : List Float) → seen ≡ neither → not a ≡ false → l ≡ d
       → (answered (later seen), l ++ drop n diag) ≡ rescaled mode.LaterScaled n norms diag [] plus_zero
   unfolding rescaled
-  later-given l es h el = laid n diag (ap later es) (el ∙ is) long ∙ given _ (later neither) (written news diag) diag (sym every ∙ not-false _ h)
+  later_given l es h el = laid n diag (ap later es) (el ∙ is) long ∙ given _ (later neither) (written news diag) diag (sym every ∙ not-false _ h)
 
 -- ---- what a mode does not read
 beside : (ok : Bool) (a : Scaled) (diag : List Float) → ((or_refused ok a [] []).0, diag) ≡ or_refused ok a diag diag
@@ -169,17 +169,17 @@ beside true a diag = refl
 beside false a diag = refl
 
 module _ (n : ℕ) (norms diag x : List Float) (bound : Float) {md : Mode} where
-  pub first-all : {r : Reply Scaled × List Float} → md ≡ mode.FirstScaled → r ≡ rescaled mode.FirstScaled n norms diag x bound → r ≡ rescaled md n norms diag x bound
-  first-all e h = rw e h
+  pub first_all : {r : Reply Scaled × List Float} → md ≡ mode.FirstScaled → r ≡ rescaled mode.FirstScaled n norms diag x bound → r ≡ rescaled md n norms diag x bound
+  first_all e h = rw e h
 
-  pub unscaled-all : (r : Reply Scaled) → md ≡ mode.FirstUnscaled → r ≡ (rescaled mode.FirstUnscaled n [] [] x bound).0 → (r, diag) ≡ rescaled md n norms diag x bound
+  pub unscaled_all : (r : Reply Scaled) → md ≡ mode.FirstUnscaled → r ≡ (rescaled mode.FirstUnscaled n [] [] x bound).0 → (r, diag) ≡ rescaled md n norms diag x bound
   unfolding rescaled
-  unscaled-all r e h = rw (e, h) (beside (usable (start_by bound (norm (take n x)))) (first_on bound (take n x)) diag)
+  unscaled_all r e h = rw (e, h) (beside (usable (start_by bound (norm (take n x)))) (first_on bound (take n x)) diag)
 
-  pub later-all : {r : Reply Scaled × List Float} → md ≡ mode.LaterScaled → r ≡ rescaled mode.LaterScaled n norms diag [] plus_zero → r ≡ rescaled md n norms diag x bound
+  pub later_all : {r : Reply Scaled × List Float} → md ≡ mode.LaterScaled → r ≡ rescaled mode.LaterScaled n norms diag [] plus_zero → r ≡ rescaled md n norms diag x bound
   unfolding rescaled
-  later-all e h = rw e h
+  later_all e h = rw e h
 
-  pub kept-all : {seen : Ranges} → seen ≡ neither → md ≡ mode.LaterUnscaled → (answered (later seen), diag) ≡ rescaled md n norms diag x bound
+  pub kept_all : {seen : Ranges} → seen ≡ neither → md ≡ mode.LaterUnscaled → (answered (later seen), diag) ≡ rescaled md n norms diag x bound
   unfolding rescaled
-  kept-all es e = rw (es, e)
+  kept_all es e = rw (es, e)

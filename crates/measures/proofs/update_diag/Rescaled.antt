@@ -9,7 +9,7 @@ use borrow.Author.Tests.{ne_eqb}
 use Rattle.leaves.specs.Reply.{Reply, refused}
 use Rattle.factor.specs.Room.{load, lay, rested}
 use Rattle.leaves.specs.Tests.{first_of}
-use Rattle.factor.specs.Tests.{room_tests, finite_test, finite_number, not_above}
+use Rattle.factor.specs.Tests.{room_tests, finite_test, finite_not_nan, not_above}
 use Rattle.measures.specs.Rescale.{Scaled, first_tests, scaling_tests, rescaled, scaling_call}
 use Rattle.factor.specs.Outcome.{ended}
 use Rattle.factor.specs.declared.state.State.{State}
@@ -21,22 +21,22 @@ use Rattle.measures.specs.inner.Reads.{parameters_read}
 
 -- ---- each mode's tests
 module _ (st : State) (store : ℕ) (diag x : List Float) (bound : Float) {k : ℕ} {md : Mode} where
-  pub first-scaled-tests : md ≡ mode.FirstScaled → k ≡ first_of (first_tests st store diag x bound) → k ≡ first_of (scaling_tests st md store diag x bound)
+  pub first_scaled_tests : md ≡ mode.FirstScaled → k ≡ first_of (first_tests st store diag x bound) → k ≡ first_of (scaling_tests st md store diag x bound)
   unfolding scaling_tests
-  first-scaled-tests e h = rw e h
+  first_scaled_tests e h = rw e h
 
-  pub first-unscaled-tests : md ≡ mode.FirstUnscaled → k ≡ first_of (first_tests st store diag x bound) → k ≡ first_of (scaling_tests st md store diag x bound)
+  pub first_unscaled_tests : md ≡ mode.FirstUnscaled → k ≡ first_of (first_tests st store diag x bound) → k ≡ first_of (scaling_tests st md store diag x bound)
   unfolding scaling_tests
-  first-unscaled-tests e h = rw e h
+  first_unscaled_tests e h = rw e h
 
-  pub later-scaled-tests : md ≡ mode.LaterScaled → k ≡ first_of (room_tests st store (length diag) ++ (finite_test st diag ∷ []))
+  pub later_scaled_tests : md ≡ mode.LaterScaled → k ≡ first_of (room_tests st store (length diag) ++ (finite_test st diag ∷ []))
       → k ≡ first_of (scaling_tests st md store diag x bound)
   unfolding scaling_tests
-  later-scaled-tests e h = rw e h
+  later_scaled_tests e h = rw e h
 
-  pub later-unscaled-tests : md ≡ mode.LaterUnscaled → k ≡ first_of (room_tests st store (length diag)) → k ≡ first_of (scaling_tests st md store diag x bound)
+  pub later_unscaled_tests : md ≡ mode.LaterUnscaled → k ≡ first_of (room_tests st store (length diag)) → k ≡ first_of (scaling_tests st md store diag x bound)
   unfolding scaling_tests
-  later-unscaled-tests e h = rw e h
+  later_unscaled_tests e h = rw e h
 
 -- ---- what is known once they are passed: the lent scaling holds n, and so does x where it is read
 abbrev pub Lent : State → Mode → ℕ → List Float → List Float → Type 0
@@ -46,7 +46,7 @@ first_passed : (st : State) (store : ℕ) (diag x : List Float) (bound : Float) 
     → Passed st store (length diag) × (st.n ≤ length x)
 first_passed st store diag x bound e =
     let ts = room_tests st store (min (length diag) (length x)) in
-    let p = room_passed st store (min (length diag) (length x)) (earlier_passed ts (finite_test st x ∷ finite_number bound ∷ (not_above bound, 7) ∷ []) refl refl e) in
+    let p = room_passed st store (min (length diag) (length x)) (earlier_passed ts (finite_test st x ∷ finite_not_nan bound ∷ (not_above bound, 7) ∷ []) refl refl e) in
     let l = p.each_long in
     (record { filled = p.filled; sizes = p.sizes; store_long = p.store_long; each_long = omega arith }, omega arith)
 
@@ -65,13 +65,13 @@ scaling_passed st md store diag x bound e z = scaling_lent st md store diag x bo
 
 -- ---- the call
 module _ (st : State) (md : Mode) (diag x : List Float) (bound : Float) (s : List Float) {c : ℕ} (e : c ≡ first_of (scaling_tests st md (length s) diag x bound)) where
-  pub scaling-refused : (c ≡ 0 → ⊥) → ended (refused c) st s diag ≡ scaling_call st md diag x bound s
+  pub scaling_refused : (c ≡ 0 → ⊥) → ended (refused c) st s diag ≡ scaling_call st md diag x bound s
   unfolding scaling_call
-  scaling-refused h = call-refused _ (λ k. ended (refused k) st s diag) _ c (sym e) (ne_eqb c 0 h)
+  scaling_refused h = call-refused _ (λ k. ended (refused k) st s diag) _ c (sym e) (ne_eqb c 0 h)
 
-  pub scaling-worked : c ≡ 0 → {a : Reply Scaled} {d s' : List Float} → ◌≡◌ {A = Reply Scaled × List Float} (a, d) (rescaled md st.n (load st.n s).norms diag x bound)
+  pub scaling_worked : c ≡ 0 → {a : Reply Scaled} {d s' : List Float} → ◌≡◌ {A = Reply Scaled × List Float} (a, d) (rescaled md st.n (load st.n s).norms diag x bound)
       → s' ≡ lay (rested (load st.n s)) → ended a st s' d ≡ scaling_call st md diag x bound s
   unfolding scaling_call
-  scaling-worked z h l =
+  scaling_worked z h l =
       rw l (ap (λ (p : Reply Scaled × List Float). ended p.0 st (lay (rested (load st.n s))) p.1) h)
       ∙ call-worked _ (λ k. ended (refused k) st s diag) _ (sym e ∙ z)

@@ -34,17 +34,17 @@ module _ (j k : ℕ) (c d w : List Float) where
   unfolding renewed
   renewed-zero h = rw (h, renewed) (rw (set-get_or d k nan, set-get_or w k nan))
 
-  pub renewed-anew : (z s x : Float) → eq (get_or d k nan) plus_zero ≡ false → x ≡ get_or c j nan → s ≡ shrunk (get_or d k nan) x → stale s (get_or w k nan) ≡ true
+  pub renewed_anew : (z s x : Float) → eq (get_or d k nan) plus_zero ≡ false → x ≡ get_or c j nan → s ≡ shrunk (get_or d k nan) x → stale s (get_or w k nan) ≡ true
       → z ≡ norm (drop (suc j) c) → (set d k z, set w k z) ≡ renewed_at j k c d w
   unfolding renewed
-  renewed-anew z s x h ex es t ez =
+  renewed_anew z s x h ex es t ez =
       let f : s ≡ shrunk (get_or d k nan) (get_or c j nan) = es ∙ ap (shrunk (get_or d k nan)) ex in
       rw (ez, h, rw f at t, renewed)
 
-  pub renewed-less : (s x : Float) → eq (get_or d k nan) plus_zero ≡ false → x ≡ get_or c j nan → s ≡ shrunk (get_or d k nan) x → stale s (get_or w k nan) ≡ false
+  pub renewed_less : (s x : Float) → eq (get_or d k nan) plus_zero ≡ false → x ≡ get_or c j nan → s ≡ shrunk (get_or d k nan) x → stale s (get_or w k nan) ≡ false
       → (set d k s, w) ≡ renewed_at j k c d w
   unfolding renewed
-  renewed-less s x h ex es t =
+  renewed_less s x h ex es t =
       let f : s ≡ shrunk (get_or d k nan) (get_or c j nan) = es ∙ ap (shrunk (get_or d k nan)) ex in
       rw (f, h, rw f at t, renewed) (rw (set-get_or w k nan))
 
@@ -54,17 +54,17 @@ module _ (j k : ℕ) (c d w : List Float) (seen : Ranges) where
   unfolding remeasured ranges_of
   remeasured-zero h = sym (rw (h, remeasured) (either_none seen))
 
-  pub remeasured-anew : (more : Ranges) (s x : Float) → eq (get_or d k nan) plus_zero ≡ false → x ≡ get_or c j nan → s ≡ shrunk (get_or d k nan) x → stale s (get_or w k nan) ≡ true
+  pub remeasured_anew : (more : Ranges) (s x : Float) → eq (get_or d k nan) plus_zero ≡ false → x ≡ get_or c j nan → s ≡ shrunk (get_or d k nan) x → stale s (get_or w k nan) ≡ true
       → more ≡ ranges (drop (suc j) c) → either seen more ≡ either seen (ranges_of (remeasured_at j k c d w))
   unfolding remeasured
-  remeasured-anew more s x h ex es t em =
+  remeasured_anew more s x h ex es t em =
       let f : s ≡ shrunk (get_or d k nan) (get_or c j nan) = es ∙ ap (shrunk (get_or d k nan)) ex in
       rw (h, rw f at t, remeasured) (ap (either seen) (em ∙ sym (ranges_of_one (drop (suc j) c))))
 
-  pub remeasured-less : (s x : Float) → eq (get_or d k nan) plus_zero ≡ false → x ≡ get_or c j nan → s ≡ shrunk (get_or d k nan) x → stale s (get_or w k nan) ≡ false
+  pub remeasured_less : (s x : Float) → eq (get_or d k nan) plus_zero ≡ false → x ≡ get_or c j nan → s ≡ shrunk (get_or d k nan) x → stale s (get_or w k nan) ≡ false
       → seen ≡ either seen (ranges_of (remeasured_at j k c d w))
   unfolding remeasured ranges_of
-  remeasured-less s x h ex es t =
+  remeasured_less s x h ex es t =
       let f : s ≡ shrunk (get_or d k nan) (get_or c j nan) = es ∙ ap (shrunk (get_or d k nan)) ex in
       sym (rw (h, rw f at t, remeasured) (either_none seen))
 

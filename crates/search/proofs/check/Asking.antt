@@ -8,7 +8,7 @@ use lib.ListN.{length, take}
 use lib.Ieee.{Float}
 use Rattle.leaves.specs.Number.{is_finite}
 use Rattle.leaves.specs.Tests.{Test, first_of, none_zero, all_finite}
-use Rattle.factor.specs.Tests.{finite_test, finite_number, not_above, below, solve_tests}
+use Rattle.factor.specs.Tests.{finite_test, finite_not_nan, not_above, below, solve_tests}
 use Rattle.factor.specs.declared.state.State.{State}
 use Rattle.leaves.proofs.Refusals.{stopped, test_met, went_to, past, none_left}
 use Rattle.factor.proofs.Passed.{solve_passed}
@@ -19,7 +19,7 @@ module _ (st : State) (store : ℕ) (order : List ℕ) (diag : List Float) (radi
   first = solve_tests st store order (min (length diag) out)
 
   abbrev numbers : List Test
-  numbers = finite_test st diag ∷ finite_number radius ∷ finite_number lambda ∷ (not_above radius, 7) ∷ (below lambda, 7) ∷ (not (none_zero (take st.n diag)), 7) ∷ []
+  numbers = finite_test st diag ∷ finite_not_nan radius ∷ finite_not_nan lambda ∷ (not_above radius, 7) ∷ (below lambda, 7) ∷ (not (none_zero (take st.n diag)), 7) ∷ []
 
   abbrev all : ℕ
   all = first_of (search_tests st store order diag radius lambda out)
@@ -27,8 +27,8 @@ module _ (st : State) (store : ℕ) (order : List ℕ) (diag : List Float) (radi
   e' : c ≡ first_of first
   e' = e ∙ ap (λ (j : ℕ). first_of (solve_tests st store order j)) m
 
-  pub first-met : (c ≡ 0 → ⊥) → c ≡ all
-  first-met h = sym (stopped first numbers c e' h)
+  pub first_met : (c ≡ 0 → ⊥) → c ≡ all
+  first_met h = sym (stopped first numbers c e' h)
 
   module _ (z : c ≡ 0) where
     pub diag_long : st.n ≤ length diag
@@ -37,28 +37,28 @@ module _ (st : State) (store : ℕ) (order : List ℕ) (diag : List Float) (radi
     to : {j : ℕ} → j ≡ first_of numbers → j ≡ all
     to h = went_to first numbers refl e' z h
 
-    pub diag-met : not (all_finite (take st.n diag)) ≡ true → 6 ≡ all
-    diag-met h = to (sym (test_met _ _ h))
+    pub diag_met : not (all_finite (take st.n diag)) ≡ true → 6 ≡ all
+    diag_met h = to (sym (test_met _ _ h))
 
     module _ (p₁ : not (all_finite (take st.n diag)) ≡ false) where
-      pub radius-met : not (is_finite radius) ≡ true → 6 ≡ all
-      radius-met h = to (past _ _ p₁ (sym (test_met _ _ h)))
+      pub radius_met : not (is_finite radius) ≡ true → 6 ≡ all
+      radius_met h = to (past _ _ p₁ (sym (test_met _ _ h)))
 
       module _ (p₂ : not (is_finite radius) ≡ false) where
-        pub lambda-met : not (is_finite lambda) ≡ true → 6 ≡ all
-        lambda-met h = to (past _ _ p₁ (past _ _ p₂ (sym (test_met _ _ h))))
+        pub lambda_met : not (is_finite lambda) ≡ true → 6 ≡ all
+        lambda_met h = to (past _ _ p₁ (past _ _ p₂ (sym (test_met _ _ h))))
 
         module _ (p₃ : not (is_finite lambda) ≡ false) where
-          pub above-met : not_above radius ≡ true → 7 ≡ all
-          above-met h = to (past _ _ p₁ (past _ _ p₂ (past _ _ p₃ (sym (test_met _ _ h)))))
+          pub above_met : not_above radius ≡ true → 7 ≡ all
+          above_met h = to (past _ _ p₁ (past _ _ p₂ (past _ _ p₃ (sym (test_met _ _ h)))))
 
           module _ (p₄ : not_above radius ≡ false) where
-            pub below-met : below lambda ≡ true → 7 ≡ all
-            below-met h = to (past _ _ p₁ (past _ _ p₂ (past _ _ p₃ (past _ _ p₄ (sym (test_met _ _ h))))))
+            pub below_met : below lambda ≡ true → 7 ≡ all
+            below_met h = to (past _ _ p₁ (past _ _ p₂ (past _ _ p₃ (past _ _ p₄ (sym (test_met _ _ h))))))
 
             module _ (p₅ : below lambda ≡ false) where
-              pub zero-met : not (none_zero (take st.n diag)) ≡ true → 7 ≡ all
-              zero-met h = to (past _ _ p₁ (past _ _ p₂ (past _ _ p₃ (past _ _ p₄ (past _ _ p₅ (sym (test_met _ _ h)))))))
+              pub zero_met : not (none_zero (take st.n diag)) ≡ true → 7 ≡ all
+              zero_met h = to (past _ _ p₁ (past _ _ p₂ (past _ _ p₃ (past _ _ p₄ (past _ _ p₅ (sym (test_met _ _ h)))))))
 
               pub none_met : not (none_zero (take st.n diag)) ≡ false → 0 ≡ all
               none_met h = to (past _ _ p₁ (past _ _ p₂ (past _ _ p₃ (past _ _ p₄ (past _ _ p₅ (past _ _ h none_left))))))

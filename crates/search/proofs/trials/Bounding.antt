@@ -70,15 +70,15 @@ module _ (p : Problem) (initial : Float) (step : List Float) (a : Answer) where
   no_lower e h = let f : is_finite (lower_bound_of p step fp) ≡ false = rw e at h in rw (f, concluded)
 
   module _ {l : Float} (e : l ≡ lower_bound_of p step fp) (h : is_finite l ≡ true) where
-    pub no-gnorm : {g : Float} → g ≡ gnorm p → is_finite g ≡ false → refused 8 ≡ concluded 0 a (damped p initial step)
+    pub no_gnorm : {g : Float} → g ≡ gnorm p → is_finite g ≡ false → refused 8 ≡ concluded 0 a (damped p initial step)
     unfolding concluded
-    no-gnorm k j =
+    no_gnorm k j =
         let f : is_finite (lower_bound_of p step fp) ≡ true = rw e at h in
         let q : is_finite (gnorm p) ≡ false = rw k at j in
         rw (f, q, concluded)
 
-    pub to-trials : {g : Float} → g ≡ gnorm p → is_finite g ≡ true → trials_from p 9 first ≡ damped p initial step
-    to-trials k j =
+    pub to_trials : {g : Float} → g ≡ gnorm p → is_finite g ≡ true → trials_from p 9 first ≡ damped p initial step
+    to_trials k j =
         let f : is_finite (lower_bound_of p step fp) ≡ true = rw e at h in
         let q : is_finite (gnorm p) ≡ true = rw k at j in
         by (trials_from p 9 first) f q
@@ -86,9 +86,9 @@ module _ (p : Problem) (initial : Float) (step : List Float) (a : Answer) where
         by : (rest : Run) {x y : Bool} → x ≡ true → y ≡ true → rest ≡ elim x [ true ↦ elim y [ true ↦ rest | false ↦ run.refused gradient_norm ] | false ↦ run.refused lower_bound ]
         by rest u w = rw (u, w)
 
-  pub first-is : {nrm l g u la : Float} → nrm ≡ scaled_norm p step → l ≡ lower_bound_of p step fp → g ≡ gnorm p → u ≡ upper_bound g p.radius → la ≡ first_lambda initial l u g nrm
+  pub first_is : {nrm l g u la : Float} → nrm ≡ scaled_norm p step → l ≡ lower_bound_of p step fp → g ≡ gnorm p → u ≡ upper_bound g p.radius → la ≡ first_lambda initial l u g nrm
       → ◌≡◌ {A = Next} (record { lambda = la; lower = l; upper = u; fp = sub binary64 nrm p.radius }) first
-  first-is x b g d c = rw (c, d, g, b, x)
+  first_is x b g d c = rw (c, d, g, b, x)
 
 pub asked-trials : (p : Problem) (x y : Next) (d : Run) → x ≡ y → trials_from p 9 y ≡ d → trials_from p 9 x ≡ d
 asked-trials p x y d f h = ap (trials_from p 9) f ∙ h

@@ -27,19 +27,19 @@ module _ (n : ℕ) (l : Rows) (r : Room) (z : Shaped n r) (e : Even n l) where
   unfolding tails
   tails-wide = length-map l.0 _ ∙ tri_length n l.0 e.0
 
-  heads-long : length (heads l.0) ≡ n
-  heads-long = heads-length l.0 ∙ tri_length n l.0 e.0
+  heads_long : length (heads l.0) ≡ n
+  heads_long = heads-length l.0 ∙ tri_length n l.0 e.0
 
-  pub lowered-shaped : Shaped n (lowered l r)
+  pub lowered_shaped : Shaped n (lowered l r)
   unfolding lowered
-  lowered-shaped = record {
+  lowered_shaped = record {
     upper_wide = z.upper_wide;
     upper_tall = z.upper_tall;
     below_wide = tails-wide;
     below_tall = tails_tall n l.0 e.0;
     qtb_long = z.qtb_long;
     norms_long = z.norms_long;
-    ldiag_long = heads-long;
+    ldiag_long = heads_long;
     work_long = z.work_long;
   }
 
@@ -50,10 +50,10 @@ module _ (n : ℕ) (l : Rows) (r : Room) (z : Shaped n r) (e : Even n l) where
       let w = tails-wide in
       let c : cleared (tails l.0) ≡ cleared r.below =
       cleared-same (tails l.0) r.below (w ∙ sym z.below_wide) (λ k h. tails_tall n l.0 e.0 k (omega arith) ∙ sym (z.below_tall k (omega arith))) in
-      rw (c, heads-long ∙ sym z.ldiag_long)
+      rw (c, heads_long ∙ sym z.ldiag_long)
 
-  pub lowered-loaded : {s : List Float} → s ≡ lay (lowered l r) → load n s ≡ lowered l r
-  lowered-loaded h = ap (λ (s : List Float). load n s) h ∙ load-lay n (lowered l r) lowered-shaped
+  pub lowered_loaded : {s : List Float} → s ≡ lay (lowered l r) → load n s ≡ lowered l r
+  lowered_loaded h = ap (λ (s : List Float). load n s) h ∙ load-lay n (lowered l r) lowered_shaped
 
 -- the rows of a problem that passes the tests
 pub rows_fit : (st : State) (store : List Float) (order : List ℕ) → Ready st store order → (diag : List Float) (lambda radius : Float)

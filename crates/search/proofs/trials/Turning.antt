@@ -23,7 +23,7 @@ use Rattle.search.specs.Search.{problem_of}
 use Rattle.search.specs.inner.Read.{Ready, turned_by}
 use Rattle.search.proofs.Seeing.{damped_slope-measured}
 use Rattle.search.proofs.Workings.{shaped}
-use Rattle.search.proofs.trials.Lowering.{lowered-emptied, lowered-loaded, rows_fit}
+use Rattle.search.proofs.trials.Lowering.{lowered-emptied, lowered_loaded, rows_fit}
 
 -- ---- the problem is R and qt_b, which stay
 pub same_problem : (st : State) (order : List ℕ) (diag : List Float) (radius : Float) (r t : Room) → emptied r ≡ emptied t → problem_of st order diag radius r ≡ problem_of st order diag radius t
@@ -50,9 +50,9 @@ module _ (st : State) (store : List Float) (order : List ℕ) (e : Ready st stor
 
   -- a step in pivot order, and its scaled step
   module _ (w : List Float) where
-    pub step-asked : placed here w ≡ damped_step here lambda → placed asked w ≡ damped_step asked lambda
+    pub step_asked : placed here w ≡ damped_step here lambda → placed asked w ≡ damped_step asked lambda
     unfolding damped_step damped_rows placed
-    step-asked h = h ∙ ap (λ (p : Problem). damped_step p lambda) (same_problem st order diag plus_zero room room₀ kept)
+    step_asked h = h ∙ ap (λ (p : Problem). damped_step p lambda) (same_problem st order diag plus_zero room room₀ kept)
 
     pub scaled-asked : {v : List Float} → v ≡ scaled_step here (placed here w) → v ≡ scaled_step asked (placed asked w)
     unfolding placed
@@ -60,7 +60,7 @@ module _ (st : State) (store : List Float) (order : List ℕ) (e : Ready st stor
 
   module _ (s' : List Float) (h : s' ≡ lay (lowered (damped_rows here lambda) room)) where
     pub left_loaded : load st.n s' ≡ lowered (damped_rows here lambda) room
-    left_loaded = lowered-loaded st.n (damped_rows here lambda) room (shaped st store order e) (rows_fit st store order e diag lambda plus_zero) h
+    left_loaded = lowered_loaded st.n (damped_rows here lambda) room (shaped st store order e) (rows_fit st store order e diag lambda plus_zero) h
 
     pub damped-kept : emptied (load st.n s') ≡ emptied room₀
     damped-kept = ap emptied left_loaded ∙ lowered-emptied st.n (damped_rows here lambda) room (shaped st store order e) (rows_fit st store order e diag lambda plus_zero) ∙ kept

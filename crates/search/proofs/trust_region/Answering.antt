@@ -19,7 +19,7 @@ use Rattle.search.specs.Measured.{measured_bounds, unless_stopped, measured_tria
 use Rattle.search.specs.Search.{problem_of, Answer, answer, concluded, answer_of}
 use Rattle.search.specs.inner.Read.{unanswered, damped, Saw}
 use Rattle.search.specs.declared.trust_region.Found.{Found}
-use Rattle.search.proofs.Trying.{any-answer, trials_unless}
+use Rattle.search.proofs.Trying.{any_answer, trials_unless}
 use Rattle.search.proofs.Seeing.{saw_same}
 
 -- ---- a run from the bounds on does not begin with a stop
@@ -47,33 +47,33 @@ bounds_any a b rest false y h = refl
 damped-any : (a b : Answer) (p : Problem) (initial : Float) (step : List Float) → concluded 0 a (damped p initial step) ≡ concluded 0 b (damped p initial step)
 damped-any a b p initial step =
     let fp = sub binary64 (scaled_norm p step) p.radius in
-    bounds_any a b _ (is_finite (lower_bound_of p step fp)) (is_finite (gnorm p)) (any-answer 0 a b p 9 _)
+    bounds_any a b _ (is_finite (lower_bound_of p step fp)) (is_finite (gnorm p)) (any_answer 0 a b p 9 _)
 
 module _ (p : Problem) (initial : Float) {step : List Float} {n : Float} (e : step ≡ undamped_step p) (d : n ≡ scaled_norm p step) where
   norm_is : scaled_norm p (undamped_step p) ≡ n
   norm_is = ap (scaled_norm p) (sym e) ∙ sym d
 
-  pub no-norm : is_finite n ≡ false → refused 8 ≡ answer_of p initial
+  pub no_norm : is_finite n ≡ false → refused 8 ≡ answer_of p initial
   unfolding answer_of run_of concluded
-  no-norm h = let f : is_finite (scaled_norm p (undamped_step p)) ≡ false = rw norm_is h in rw (f, concluded)
+  no_norm h = let f : is_finite (scaled_norm p (undamped_step p)) ≡ false = rw norm_is h in rw (f, concluded)
 
   module _ (h : is_finite n ≡ true) where
-    abbrev finite-norm : is_finite (scaled_norm p (undamped_step p)) ≡ true
-    finite-norm = rw norm_is h
+    abbrev finite_norm : is_finite (scaled_norm p (undamped_step p)) ≡ true
+    finite_norm = rw norm_is h
 
     pub taken : le (sub binary64 n p.radius) (band p.radius) ≡ true → answered (answer plus_zero n 0 step) ≡ answer_of p initial
     unfolding answer_of run_of concluded
     taken w =
         let w' : le (sub binary64 (scaled_norm p (undamped_step p)) p.radius) (band p.radius) ≡ true = rw norm_is w in
-        rw (finite-norm, w', concluded, d, e)
+        rw (finite_norm, w', concluded, d, e)
 
     -- the norm of its scaled step is the only one
-    pub taken-seen : {seen : Ranges} → le (sub binary64 n p.radius) (band p.radius) ≡ true → seen ≡ ranges (scaled_step p step) → seen ≡ ranges_of (measured_by p initial)
+    pub taken_seen : {seen : Ranges} → le (sub binary64 n p.radius) (band p.radius) ≡ true → seen ≡ ranges (scaled_step p step) → seen ≡ ranges_of (measured_by p initial)
     unfolding measured_by unless_stopped measured_trials run_of
-    taken-seen w k =
+    taken_seen w k =
         let w' : le (sub binary64 (scaled_norm p (undamped_step p)) p.radius) (band p.radius) ≡ true = rw norm_is w in
         k ∙ ap (λ (x : List Float). ranges (scaled_step p x)) e ∙ sym (ranges_of_one (scaled_step p (undamped_step p)))
-        ∙ ap (λ (r : Run). ranges_of (scaled_step p (undamped_step p) ∷ (unless_stopped r (measured_bounds p (undamped_step p)) ++ measured_trials p r))) (by (damped p initial (undamped_step p)) finite-norm w')
+        ∙ ap (λ (r : Run). ranges_of (scaled_step p (undamped_step p) ∷ (unless_stopped r (measured_bounds p (undamped_step p)) ++ measured_trials p r))) (by (damped p initial (undamped_step p)) finite_norm w')
       where
         by : (rest : Run) {x y : Bool} → x ≡ true → y ≡ true
             → run.stopped run.undamped ≡ elim x [ true ↦ elim y [ true ↦ run.stopped run.undamped | false ↦ rest ] | false ↦ run.refused run.undamped_norm ]
@@ -84,7 +84,7 @@ module _ (p : Problem) (initial : Float) {step : List Float} {n : Float} (e : st
       unfolding run_of
       run_on =
           let w' : le (sub binary64 (scaled_norm p (undamped_step p)) p.radius) (band p.radius) ≡ false = rw norm_is w in
-          by (damped p initial (undamped_step p)) finite-norm w'
+          by (damped p initial (undamped_step p)) finite_norm w'
         where
           by : (rest : Run) {x y : Bool} → x ≡ true → y ≡ false
               → rest ≡ elim x [ true ↦ elim y [ true ↦ run.stopped run.undamped | false ↦ rest ] | false ↦ run.refused run.undamped_norm ]
@@ -96,10 +96,10 @@ module _ (p : Problem) (initial : Float) {step : List Float} {n : Float} (e : st
           let a = answer plus_zero (scaled_norm p (undamped_step p)) 0 (undamped_step p) in
           k ∙ ap (λ (x : List Float). concluded 0 unanswered (damped p initial x)) e ∙ damped-any unanswered a p initial (undamped_step p) ∙ ap (concluded 0 a) run_on
 
-      pub not-taken-seen : (r : Found) {seen : Ranges} → seen ≡ ranges (scaled_step p step)
+      pub not_taken_seen : (r : Found) {seen : Ranges} → seen ≡ ranges (scaled_step p step)
           → Saw r (either seen (either (ranges_of (measured_bounds p step)) (ranges_of (measured_trials p (damped p initial step))))) → Saw r (ranges_of (measured_by p initial))
       unfolding measured_by ranges_of
-      not-taken-seen r {seen} k h =
+      not_taken_seen r {seen} k h =
           let s = undamped_step p in
           let d = damped p initial s in
           let v = scaled_step p s in

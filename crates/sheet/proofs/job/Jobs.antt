@@ -25,7 +25,7 @@ use Rattle.sheet.specs.Fit.{Fit, searched, Finished, finished, mapped, sought_fr
 use Rattle.sheet.specs.inner.Handed.{numbers_call}
 use Rattle.sheet.specs.declared.head.Head.{Head}
 use Rattle.sheet.specs.declared.answer.Fitted.{Fitted}
-use Rattle.sheet.proofs.Testing.{search-task, start-task, task-is}
+use Rattle.sheet.proofs.Testing.{search-task, start-task, task_is}
 use Rattle.leaves.specs.Refusing.{NoneHold}
 
 -- ---- call 1 or call 2
@@ -33,13 +33,13 @@ module _ (call n : ℕ) (rest : List Float) (st : State) (order : List ℕ) (sto
   abbrev sought : Finished Fitted
   sought = sought_from st order (take n rest) (get_or rest n nan) (get_or rest (n + 1) nan) store step
 
-  pub as-search : {t : Finished Fit} → call ≡ 1 → t ≡ finished (mapped searched sought.reply) sought.step → t ≡ task_from (task_of call n rest) st order store step
+  pub as_search : {t : Finished Fit} → call ≡ 1 → t ≡ finished (mapped searched sought.reply) sought.step → t ≡ task_from (task_of call n rest) st order store step
   unfolding task_from
-  as-search e h = h ∙ ap (λ (u : Task). task_from u st order store step) (search-task call n rest e)
+  as_search e h = h ∙ ap (λ (u : Task). task_from u st order store step) (search-task call n rest e)
 
-  pub as-start : {t : Finished Fit} → call ≢ 1 → t ≡ started_from st order (take n rest) (get_or rest n nan) store step → t ≡ task_from (task_of call n rest) st order store step
+  pub as_start : {t : Finished Fit} → call ≢ 1 → t ≡ started_from st order (take n rest) (get_or rest n nan) store step → t ≡ task_from (task_of call n rest) st order store step
   unfolding task_from
-  as-start e h = h ∙ ap (λ (u : Task). task_from u st order store step) (start-task call n rest e)
+  as_start e h = h ∙ ap (λ (u : Task). task_from u st order store step) (start-task call n rest e)
 
 -- ---- factoring, then the call
 module _ (h : Head) (xs store : List Float) (order : List ℕ) (bench step : List Float) (e : length xs ≡ count_of h) (o : outside h.m h.n ≡ false) where
@@ -55,12 +55,12 @@ module _ (h : Head) (xs store : List Float) (order : List ℕ) (bench step : Lis
         ∙ ap (λ (y : Factored). by_factoring (job_of h xs).task y.reply y.state y.order y.store step)
         (f ∙ ap (λ (k : ℕ). factor_call h.m h.n (take a xs) (take k (drop a xs)) store order bench) z)
 
-    pub work-on : {f : Ranges} → d ≡ ranged.Seen f → {t : Finished Fit} → t ≡ task_from (task_of h.call h.n (take (length xs - (a + h.m)) (drop (a + h.m) xs))) q w s step
+    pub work_on : {f : Ranges} → d ≡ ranged.Seen f → {t : Finished Fit} → t ≡ task_from (task_of h.call h.n (take (length xs - (a + h.m)) (drop (a + h.m) xs))) q w s step
         → t ≡ worked_in (job_of h xs) store order bench step
-    work-on p g =
+    work_on p g =
         g
         ∙ ap (λ (l : List Float). task_from (task_of h.call h.n l) q w s step) (part_to_end xs (a + h.m))
-        ∙ ap (λ (u : Task). task_from u q w s step) (task-is h xs e o)
+        ∙ ap (λ (u : Task). task_from u q w s step) (task_is h xs e o)
         ∙ by _ p
 
     pub work-refused : {k : ℕ} → d ≡ ranged.Refused k → finished (refused k) step ≡ worked_in (job_of h xs) store order bench step
@@ -108,9 +108,9 @@ module _ (s : List ℕ) (step : List Float) where
   abbrev all : Finished Fit
   all = worked (job_of (head_of s) (numbers_of (head_of s) s)) step
 
-  pub sheet-short : length s < 3 → finished (refused 1) step ≡ sheet_call s step
+  pub sheet_short : length s < 3 → finished (refused 1) step ≡ sheet_call s step
   unfolding sheet_call sheet_tests
-  sheet-short t = call-refused all refusal (sheet_tests s (length step)) 1 (test_met _ _ (lt-ltb _ _ t)) refl
+  sheet_short t = call-refused all refusal (sheet_tests s (length step)) 1 (test_met _ _ (lt-ltb _ _ t)) refl
 
   module _ (t : 3 ≤ length s) {h : Head} (p : h ≡ head_of s) {c : ℕ} (e : c ≡ first_of (field_tests h (length s) (length step))) where
     f : c ≡ first_of (field_tests (head_of s) (length s) (length step))
@@ -122,9 +122,9 @@ module _ (s : List ℕ) (step : List Float) where
         call-refused all refusal (sheet_tests s (length step)) c
         (sym (past _ _ (le-ltb _ _ t) (sym (stopped (field_tests (head_of s) (length s) (length step)) (number_tests (head_of s) (numbers_of (head_of s) s)) c f n)))) (ne_eqb _ _ n)
 
-    pub sheet-on : c ≡ 0 → numbers_call h s step ≡ sheet_call s step
+    pub sheet_on : c ≡ 0 → numbers_call h s step ≡ sheet_call s step
     unfolding numbers_call sheet_call sheet_tests
-    sheet-on z =
+    sheet_on z =
         ap (λ (x : Head). numbers_call x s step) p
         ∙ ap (λ (k : ℕ). elim (eqb k 0) [ true ↦ all | false ↦ refusal k ])
         (past _ _ (le-ltb _ _ t) (went_to (field_tests (head_of s) (length s) (length step)) (number_tests (head_of s) (numbers_of (head_of s) s)) refl f z refl))

@@ -45,8 +45,8 @@ module _ (st : State) (order : List ℕ) (diag : List Float) (radius lambda : Fl
         ap (λ (x : Place). by_determined st.n (place_of x) (after left) step) (sym p)
         ∙ ap (λ (x : calls.Told ℕ). by_determined st.n x.reply (after x.store) step) e
 
-    pub sought-on : {k : ℕ} → a ≡ place.At k → {t : Finished Fitted} → t ≡ by_search st.n k (after left).reply (after left).out → t ≡ sought_from st order diag radius lambda store step
-    sought-on p h = h ∙ by _ p
+    pub sought_on : {k : ℕ} → a ≡ place.At k → {t : Finished Fitted} → t ≡ by_search st.n k (after left).reply (after left).out → t ≡ sought_from st order diag radius lambda store step
+    sought_on p h = h ∙ by _ p
 
     pub sought-refused : {k : ℕ} → a ≡ place.Refused k → finished (refused k) step ≡ sought_from st order diag radius lambda store step
     sought-refused p = by _ p
@@ -64,9 +64,9 @@ module _ (st : State) (order : List ℕ) (x : List Float) (bound : Float) (store
         ap (λ (u : Scaling). by_scaling st order (scaling_of u) diag left step) (sym p)
         ∙ ap (λ (u : Ended Scaled). by_scaling st order u.reply u.out u.store step) (e ∙ ap (λ (o : List Float). scaling_call st mode.FirstScaled o x bound store) z)
 
-    pub started-on : {t : Start} {f : Ranges} → a ≡ scaling.First t f → (b : Sought) {now : List Float} → finished (sought_of b) now ≡ sought_from st order diag t.radius plus_zero left step
+    pub started_on : {t : Start} {f : Ranges} → a ≡ scaling.First t f → (b : Sought) {now : List Float} → finished (sought_of b) now ≡ sought_from st order diag t.radius plus_zero left step
         → {r : Reply Fit} → r ≡ mapped (started t.radius) (sought_of b) → finished r now ≡ started_from st order x bound store step
-    started-on {t = t} p b h k = mapped-told (started t.radius) b _ h k ∙ scaled _ p
+    started_on {t = t} p b h k = mapped-told (started t.radius) b _ h k ∙ scaled _ p
 
     pub started-later : {f : Ranges} → a ≡ scaling.Later f → finished (refused 8) step ≡ started_from st order x bound store step
     started-later p = scaled _ p

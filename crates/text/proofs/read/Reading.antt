@@ -41,18 +41,18 @@ is_small_lem b k e = subst Small e (small_of b)
 
 -- ---- the turns
 module _ (s : List ℕ) (at v i : ℕ) (r : Read) where
-  pub number-stop : (x : Read) → i < length s → digit_of (get_or s i 0) ≡ Not → x ≡ stopped at v i (get_or s i 0) → read_from at v i (drop i s) ≡ r → x ≡ r
+  pub number_stop : (x : Read) → i < length s → digit_of (get_or s i 0) ≡ Not → x ≡ stopped at v i (get_or s i 0) → read_from at v i (drop i s) ≡ r → x ≡ r
   unfolding read_from turn
-  number-stop x h d e p = e ∙ (rw d at (rw (drop-cons s i 0 h) at p))
+  number_stop x h d e p = e ∙ (rw d at (rw (drop-cons s i 0 h) at p))
 
-  pub number-over : (k : ℕ) → i < length s → digit_of (get_or s i 0) ≡ Is k → 2 ^ 60 ≤ v → read_from at v i (drop i s) ≡ r → read.Refused ≡ r
+  pub number_over : (k : ℕ) → i < length s → digit_of (get_or s i 0) ≡ Is k → 2 ^ 60 ≤ v → read_from at v i (drop i s) ≡ r → read.Refused ≡ r
   unfolding read_from turn
-  number-over k h d t p = rw (le-leb (2 ^ 60) v t) at (rw d at (rw (drop-cons s i 0 h) at p))
+  number_over k h d t p = rw (le-leb (2 ^ 60) v t) at (rw d at (rw (drop-cons s i 0 h) at p))
 
-  pub number-go : (k : ℕ) → i < length s → digit_of (get_or s i 0) ≡ Is k → v < 2 ^ 60 → read_from at v i (drop i s) ≡ r → read_from at (v * 16 + k) (i + 1) (drop (i + 1) s) ≡ r
+  pub number_go : (k : ℕ) → i < length s → digit_of (get_or s i 0) ≡ Is k → v < 2 ^ 60 → read_from at v i (drop i s) ≡ r → read_from at (v * 16 + k) (i + 1) (drop (i + 1) s) ≡ r
   unfolding read_from turn
-  number-go k h d t p = rw add-one (rw (lt-leb (2 ^ 60) v t) at (rw d at (rw (drop-cons s i 0 h) at p)))
+  number_go k h d t p = rw add-one (rw (lt-leb (2 ^ 60) v t) at (rw d at (rw (drop-cons s i 0 h) at p)))
 
-  pub number-end : (x : Read) → length s ≤ i → x ≡ number_ends at v i → read_from at v i (drop i s) ≡ r → x ≡ r
+  pub number_end : (x : Read) → length s ≤ i → x ≡ number_ends at v i → read_from at v i (drop i s) ≡ r → x ≡ r
   unfolding read_from
-  number-end x h e p = e ∙ (rw (drop_of_length-le s {i = i} h) at p)
+  number_end x h e p = e ∙ (rw (drop_of_length-le s {i = i} h) at p)

@@ -4,7 +4,7 @@ use mathlib.Core.Path.{◌≡◌, refl, sym, ◌∙◌}
 use borrow.Author.Rules.{rules}
 use lib.ListN.{length, drop}
 use Rattle.calls.specs.Tests.{continues}
-use Rattle.calls.proofs.Counts.{count-stops, count-goes, count-ends}
+use Rattle.calls.proofs.Counts.{count_stops, count_goes, count_ends}
 use Rattle.calls.proofs.check.goes_on.Statement.{statement}
 use Rattle.calls.proofs.check.goes_on.Tie as tie
 
@@ -27,7 +27,7 @@ returns : tie.Need-returns invariant-loop decreases-loop
 returns c =
     let g = c.before.before.before.before.args in
     let l = c.before.before.before.loop in
-    sym (count-stops l.k g.order.now c.before.before.loop-test.true c.if1.true) ∙ l.invariant.1
+    sym (count_stops l.k g.order.now c.before.before.loop-test.true c.if1.true) ∙ l.invariant.1
 
 add-k : tie.Need-overflow-add-k invariant-loop decreases-loop
 add-k c = search rules
@@ -39,13 +39,13 @@ loop-again : tie.Need-loop-preserved invariant-loop decreases-loop
 loop-again c =
     let g = c.before.before.before.before.args in
     let l = c.before.before.before.loop in
-    (search rules, sym (count-goes l.k g.order.now c.before.before.loop-test.true c.if1.false) ∙ l.invariant.1)
+    (search rules, sym (count_goes l.k g.order.now c.before.before.loop-test.true c.if1.false) ∙ l.invariant.1)
 
 returns-2 : tie.Need-returns-2 invariant-loop decreases-loop
 returns-2 c =
     let g = c.before.before.args in
     let l = c.before.loop in
-    sym (count-ends l.k g.order.now c.loop-test.false) ∙ l.invariant.1
+    sym (count_ends l.k g.order.now c.loop-test.false) ∙ l.invariant.1
 
 pub goes-on-spec : {M : Type 1} → statement M
 goes-on-spec =

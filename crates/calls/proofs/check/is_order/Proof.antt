@@ -6,7 +6,7 @@ use native.Mathlib.Omega.{arith}
 use lib.Seq.{length-take-le}
 use borrow.Author.Rules.{rules}
 use Rattle.factor.specs.Tests.{is_permutation}
-use Rattle.calls.proofs.Counts.{none-permuted, is-permuted, not-permuted, order-refused, order-counted}
+use Rattle.calls.proofs.Counts.{none_permuted, is_permuted, not_permuted, order-refused, order_counted}
 use Rattle.calls.proofs.check.is_order.Statement.{statement}
 use Rattle.calls.proofs.check.is_order.Tie as tie
 
@@ -17,7 +17,7 @@ returns : tie.Need-returns
 returns c =
     let s = c.before.before.before.before in
     let g = s.args in
-    let w : is_permutation g.free g.order.now ≡ false = not-permuted g.free g.order.now c.before.before.if1.true (omega arith) (omega arith) (λ e. c.if2.true (c.before.permutation.ensures ∙ e)) in
+    let w : is_permutation g.free g.order.now ≡ false = not_permuted g.free g.order.now c.before.before.if1.true (omega arith) (omega arith) (λ e. c.if2.true (c.before.permutation.ensures ∙ e)) in
     order-refused g.free g.n g.order.now w
 
 slice-aggregate-goes-on : tie.Need-slice-aggregate-goes-on
@@ -36,10 +36,10 @@ returns-2 c =
     let s = c.before.before.before.before in
     let g = s.args in
     let w : is_permutation g.free g.order.now ≡ true = ⊎_elim
-    (λ w. is-permuted g.free g.order.now w.0.taken (omega arith) (omega arith) (sym w.1.ensures ∙ w.2.left))
-    (λ w. none-permuted g.free g.order.now w.left)
+    (λ w. is_permuted g.free g.order.now w.0.taken (omega arith) (omega arith) (sym w.1.ensures ∙ w.2.left))
+    (λ w. none_permuted g.free g.order.now w.left)
     c.before.before.if1.branch in
-    order-counted g.free g.n g.order.now w c.goes_on.ensures
+    order_counted g.free g.n g.order.now w c.goes_on.ensures
 
 pub is-order-spec : {M : Type 1} → statement M
 is-order-spec =

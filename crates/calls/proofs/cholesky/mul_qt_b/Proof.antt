@@ -5,7 +5,7 @@ use borrow.Author.Rules.{rules}
 use lib.ListN.{length}
 use Rattle.factor.specs.HeldCalls.{mul_call}
 use Rattle.factor.specs.declared.state.State.{State as Plain}
-use Rattle.calls.proofs.Backs.{free-few, ready-reducible, small-fits, small-long, step_fits, step_long, ended-unmarked}
+use Rattle.calls.proofs.Backs.{free_few, ready_reducible, small_fits, small_long, step_fits, step_long, ended-unmarked}
 use Rattle.calls.proofs.Helds.{mul-unmarked, mul-refused, mul_ready, mul-rested}
 use Rattle.calls.proofs.cholesky.mul_qt_b.Statement.{statement}
 use Rattle.calls.proofs.cholesky.mul_qt_b.Tie as tie
@@ -47,7 +47,7 @@ store-need-requires c κs =
     let g = c.before.before.before.before.before.before.args in
     let s = length g.out.now in
     let h = mul_ready g.st g.store.now g.out.now c.before.before.before.if1.false c.before.before.check-mul.ensures c.before.if2.false in
-    free-few g.st g.store.now s h c.free-count.ensures
+    free_few g.st g.store.now s h c.free-count.ensures
 
 room320-requires : tie.Need-room320-requires
 room320-requires c κs = search rules
@@ -60,14 +60,14 @@ array-borrow-prefix-small c =
     let g = c.before.before.before.before.before.before.before.before.before.before.args in
     let s = length g.out.now in
     let h = mul_ready g.st g.store.now g.out.now c.before.before.before.before.before.before.before.if1.false c.before.before.before.before.before.before.check-mul.ensures c.before.before.before.before.before.if2.false in
-    small-fits g.st g.store.now s h c.before.before.before.before.free-count.ensures _ c.before.before.before.store-need.ensures c.before.before.room320.ensures
+    small_fits g.st g.store.now s h c.before.before.before.before.free-count.ensures _ c.before.before.before.store-need.ensures c.before.before.room320.ensures
 
 slice-aggregate-mul-frozen : tie.Need-slice-aggregate-mul-frozen
 slice-aggregate-mul-frozen c =
     let g = c.before.before.before.before.before.before.before.before.before.before.before.args in
     let s = length g.out.now in
     let h = mul_ready g.st g.store.now g.out.now c.before.before.before.before.before.before.before.before.if1.false c.before.before.before.before.before.before.before.check-mul.ensures c.before.before.before.before.before.before.if2.false in
-    sym (small-long g.st g.store.now s h c.before.before.before.before.before.free-count.ensures _ c.before.before.before.before.store-need.ensures c.before.before.before.room320.ensures)
+    sym (small_long g.st g.store.now s h c.before.before.before.before.before.free-count.ensures _ c.before.before.before.before.store-need.ensures c.before.before.before.room320.ensures)
 
 array-borrow-prefix-x : tie.Need-array-borrow-prefix-x
 array-borrow-prefix-x c =
@@ -88,15 +88,15 @@ mul-frozen-requires c κs =
     let g = c.before.before.before.before.before.before.before.before.before.before.before.before.before.args in
     let s = length g.out.now in
     let h = mul_ready g.st g.store.now g.out.now c.before.before.before.before.before.before.before.before.before.before.if1.false c.before.before.before.before.before.before.before.before.before.check-mul.ensures c.before.before.before.before.before.before.before.before.if2.false in
-    let small = small-long g.st g.store.now s h c.before.before.before.before.before.before.before.free-count.ensures _ c.before.before.before.before.before.before.store-need.ensures c.before.before.before.before.before.room320.ensures ∙ c.before.before.before.before.before.before.store-need.ensures in
-    (ready-reducible g.st g.store.now s h c.before.before.before.before.before.before.before.free-count.ensures, (small, step_long g.st g.store.now s h c.before.before.before.before.before.before.before.free-count.ensures _ c.before.before.before.before.room16.ensures, omega (arith, h.each_long)))
+    let small = small_long g.st g.store.now s h c.before.before.before.before.before.before.before.free-count.ensures _ c.before.before.before.before.before.before.store-need.ensures c.before.before.before.before.before.room320.ensures ∙ c.before.before.before.before.before.before.store-need.ensures in
+    (ready_reducible g.st g.store.now s h c.before.before.before.before.before.before.before.free-count.ensures, (small, step_long g.st g.store.now s h c.before.before.before.before.before.before.before.free-count.ensures _ c.before.before.before.before.room16.ensures, omega (arith, h.each_long)))
 
 rest-in-requires : tie.Need-rest-in-requires
 rest-in-requires c κs =
     let g = c.before.before.before.before.before.before.before.before.before.before.before.before.before.before.before.before.before.before.before.args in
     let s = length g.out.now in
     let h = mul_ready g.st g.store.now g.out.now c.before.before.before.before.before.before.before.before.before.before.before.before.before.before.before.before.if1.false c.before.before.before.before.before.before.before.before.before.before.before.before.before.before.before.check-mul.ensures c.before.before.before.before.before.before.before.before.before.before.before.before.before.before.if2.false in
-    ready-reducible g.st g.store.now s h c.before.before.before.before.before.before.before.before.before.before.before.before.before.free-count.ensures
+    ready_reducible g.st g.store.now s h c.before.before.before.before.before.before.before.before.before.before.before.before.before.free-count.ensures
 
 same-length-3 : tie.Need-same-length-3
 same-length-3 c = search rules

@@ -7,7 +7,7 @@ use Rattle.factor.specs.Outcome.{read_of as Read-of}
 use Rattle.factor.specs.HeldCalls.{mul_call}
 use Rattle.factor.specs.declared.state.State.{State as Plain}
 use Rattle.calls.specs.HeldCalls.{marked_read}
-use Rattle.calls.proofs.Backs.{free-few, ready-reducible, small-fits, small-long, step_fits, step_long}
+use Rattle.calls.proofs.Backs.{free_few, ready_reducible, small_fits, small_long, step_fits, step_long}
 use Rattle.calls.proofs.Helds.{mul-unmarked, mul-refused, mul_ready, mul-worked}
 use Rattle.calls.proofs.cholesky.mul_read.Statement.{statement}
 use Rattle.calls.proofs.cholesky.mul_read.Tie as tie
@@ -43,7 +43,7 @@ store-need-requires c κs =
     let g = c.before.before.before.before.before.before.args in
     let s = length g.out.now in
     let h = mul_ready g.st g.store.now g.out.now c.before.before.before.if1.false c.before.before.check-mul.ensures c.before.if2.false in
-    free-few g.st g.store.now s h c.free-count.ensures
+    free_few g.st g.store.now s h c.free-count.ensures
 
 room320-requires : tie.Need-room320-requires
 room320-requires c κs = search rules
@@ -56,14 +56,14 @@ array-borrow-prefix-small c =
     let g = c.before.before.before.before.before.before.before.before.before.args in
     let s = length g.out.now in
     let h = mul_ready g.st g.store.now g.out.now c.before.before.before.before.before.before.if1.false c.before.before.before.before.before.check-mul.ensures c.before.before.before.before.if2.false in
-    small-fits g.st g.store.now s h c.before.before.before.free-count.ensures _ c.before.before.store-need.ensures c.before.room320.ensures
+    small_fits g.st g.store.now s h c.before.before.before.free-count.ensures _ c.before.before.store-need.ensures c.before.room320.ensures
 
 slice-aggregate-mul-frozen : tie.Need-slice-aggregate-mul-frozen
 slice-aggregate-mul-frozen c =
     let g = c.before.before.before.before.before.before.before.before.before.before.args in
     let s = length g.out.now in
     let h = mul_ready g.st g.store.now g.out.now c.before.before.before.before.before.before.before.if1.false c.before.before.before.before.before.before.check-mul.ensures c.before.before.before.before.before.if2.false in
-    sym (small-long g.st g.store.now s h c.before.before.before.before.free-count.ensures _ c.before.before.before.store-need.ensures c.before.before.room320.ensures)
+    sym (small_long g.st g.store.now s h c.before.before.before.before.free-count.ensures _ c.before.before.before.store-need.ensures c.before.before.room320.ensures)
 
 array-borrow-prefix-x : tie.Need-array-borrow-prefix-x
 array-borrow-prefix-x c =
@@ -84,8 +84,8 @@ mul-frozen-requires c κs =
     let g = c.before.before.before.before.before.before.before.before.before.before.before.before.args in
     let s = length g.out.now in
     let h = mul_ready g.st g.store.now g.out.now c.before.before.before.before.before.before.before.before.before.if1.false c.before.before.before.before.before.before.before.before.check-mul.ensures c.before.before.before.before.before.before.before.if2.false in
-    let small = small-long g.st g.store.now s h c.before.before.before.before.before.before.free-count.ensures _ c.before.before.before.before.before.store-need.ensures c.before.before.before.before.room320.ensures ∙ c.before.before.before.before.before.store-need.ensures in
-    (ready-reducible g.st g.store.now s h c.before.before.before.before.before.before.free-count.ensures, (small, step_long g.st g.store.now s h c.before.before.before.before.before.before.free-count.ensures _ c.before.before.before.room16.ensures, omega (arith, h.each_long)))
+    let small = small_long g.st g.store.now s h c.before.before.before.before.before.before.free-count.ensures _ c.before.before.before.before.before.store-need.ensures c.before.before.before.before.room320.ensures ∙ c.before.before.before.before.before.store-need.ensures in
+    (ready_reducible g.st g.store.now s h c.before.before.before.before.before.before.free-count.ensures, (small, step_long g.st g.store.now s h c.before.before.before.before.before.before.free-count.ensures _ c.before.before.before.room16.ensures, omega (arith, h.each_long)))
 
 same-length-2 : tie.Need-same-length-2
 same-length-2 c = search rules

@@ -7,7 +7,7 @@ use lib.ListN.{length}
 use lib.Seq.{length-take-le}
 use Rattle.factor.specs.HeldCalls.{solve_call}
 use Rattle.factor.specs.declared.state.State.{State as Plain}
-use Rattle.calls.proofs.Backs.{free-few, ready-reducible, first-long, small-fits, small-long, step_fits, step_long, ended-unmarked}
+use Rattle.calls.proofs.Backs.{free_few, ready_reducible, first_long, small_fits, small_long, step_fits, step_long, ended-unmarked}
 use Rattle.calls.proofs.Helds.{put-fits, solve-unmarked, solve-refused, solve_ready, solve-rested}
 use Rattle.calls.proofs.cholesky.solve.Statement.{statement}
 use Rattle.calls.proofs.cholesky.solve.Tie as tie
@@ -49,7 +49,7 @@ store-need-requires c κs =
     let g = c.before.before.before.before.before.before.before.before.args in
     let s = min (length g.order.now) (min (length g.rhs.now) (length g.out.now)) in
     let h = solve_ready g.st g.order.now g.rhs.now g.store.now g.out.now c.before.before.before.if1.false c.before.before.check-solve.ensures c.before.if2.false in
-    free-few g.st g.store.now s h c.free-count.ensures
+    free_few g.st g.store.now s h c.free-count.ensures
 
 room320-requires : tie.Need-room320-requires
 room320-requires c κs = search rules
@@ -86,7 +86,7 @@ slice-aggregate-solve-frozen c =
     let g = c.before.before.before.before.before.before.before.before.before.before.before.before.before.before.before.before.before.args in
     let s = min (length g.order.now) (min (length g.rhs.now) (length g.out.now)) in
     let h = solve_ready g.st g.order.now g.rhs.now g.store.now g.out.now c.before.before.before.before.before.before.before.before.before.before.before.before.if1.false c.before.before.before.before.before.before.before.before.before.before.before.check-solve.ensures c.before.before.before.before.before.before.before.before.before.before.if2.false in
-    sym (first-long g.st g.store.now s h c.before.before.before.before.before.before.before.before.before.free-count.ensures g.order.now (omega (arith, h.each_long)))
+    sym (first_long g.st g.store.now s h c.before.before.before.before.before.before.before.before.before.free-count.ensures g.order.now (omega (arith, h.each_long)))
 
 array-share-prefix-bs : tie.Need-array-share-prefix-bs
 array-share-prefix-bs c =
@@ -107,14 +107,14 @@ array-borrow-prefix-small c =
     let g = c.before.before.before.before.before.before.before.before.before.before.before.before.before.before.before.before.before.before.args in
     let s = min (length g.order.now) (min (length g.rhs.now) (length g.out.now)) in
     let h = solve_ready g.st g.order.now g.rhs.now g.store.now g.out.now c.before.before.before.before.before.before.before.before.before.before.before.before.before.if1.false c.before.before.before.before.before.before.before.before.before.before.before.before.check-solve.ensures c.before.before.before.before.before.before.before.before.before.before.before.if2.false in
-    small-fits g.st g.store.now s h c.before.before.before.before.before.before.before.before.before.before.free-count.ensures _ c.before.before.before.before.before.before.before.before.before.store-need.ensures c.before.before.before.before.before.before.before.before.room320.ensures
+    small_fits g.st g.store.now s h c.before.before.before.before.before.before.before.before.before.before.free-count.ensures _ c.before.before.before.before.before.before.before.before.before.store-need.ensures c.before.before.before.before.before.before.before.before.room320.ensures
 
 slice-aggregate-solve-frozen-3 : tie.Need-slice-aggregate-solve-frozen-3
 slice-aggregate-solve-frozen-3 c =
     let g = c.before.before.before.before.before.before.before.before.before.before.before.before.before.before.before.before.before.before.before.args in
     let s = min (length g.order.now) (min (length g.rhs.now) (length g.out.now)) in
     let h = solve_ready g.st g.order.now g.rhs.now g.store.now g.out.now c.before.before.before.before.before.before.before.before.before.before.before.before.before.before.if1.false c.before.before.before.before.before.before.before.before.before.before.before.before.before.check-solve.ensures c.before.before.before.before.before.before.before.before.before.before.before.before.if2.false in
-    sym (small-long g.st g.store.now s h c.before.before.before.before.before.before.before.before.before.before.before.free-count.ensures _ c.before.before.before.before.before.before.before.before.before.before.store-need.ensures c.before.before.before.before.before.before.before.before.before.room320.ensures)
+    sym (small_long g.st g.store.now s h c.before.before.before.before.before.before.before.before.before.before.before.free-count.ensures _ c.before.before.before.before.before.before.before.before.before.before.store-need.ensures c.before.before.before.before.before.before.before.before.before.room320.ensures)
 
 array-borrow-prefix-x : tie.Need-array-borrow-prefix-x
 array-borrow-prefix-x c =
@@ -135,15 +135,15 @@ solve-frozen-requires c κs =
     let g = c.before.before.before.before.before.before.before.before.before.before.before.before.before.before.before.before.before.before.before.before.before.args in
     let s = min (length g.order.now) (min (length g.rhs.now) (length g.out.now)) in
     let h = solve_ready g.st g.order.now g.rhs.now g.store.now g.out.now c.before.before.before.before.before.before.before.before.before.before.before.before.before.before.before.before.if1.false c.before.before.before.before.before.before.before.before.before.before.before.before.before.before.before.check-solve.ensures c.before.before.before.before.before.before.before.before.before.before.before.before.before.before.if2.false in
-    let small = small-long g.st g.store.now s h c.before.before.before.before.before.before.before.before.before.before.before.before.before.free-count.ensures _ c.before.before.before.before.before.before.before.before.before.before.before.before.store-need.ensures c.before.before.before.before.before.before.before.before.before.before.before.room320.ensures ∙ c.before.before.before.before.before.before.before.before.before.before.before.before.store-need.ensures in
-    (ready-reducible g.st g.store.now s h c.before.before.before.before.before.before.before.before.before.before.before.before.before.free-count.ensures, (small, step_long g.st g.store.now s h c.before.before.before.before.before.before.before.before.before.before.before.before.before.free-count.ensures _ c.before.before.before.before.before.before.before.before.before.room162.ensures, omega (arith, h.each_long)))
+    let small = small_long g.st g.store.now s h c.before.before.before.before.before.before.before.before.before.before.before.before.before.free-count.ensures _ c.before.before.before.before.before.before.before.before.before.before.before.before.store-need.ensures c.before.before.before.before.before.before.before.before.before.before.before.room320.ensures ∙ c.before.before.before.before.before.before.before.before.before.before.before.before.store-need.ensures in
+    (ready_reducible g.st g.store.now s h c.before.before.before.before.before.before.before.before.before.before.before.before.before.free-count.ensures, (small, step_long g.st g.store.now s h c.before.before.before.before.before.before.before.before.before.before.before.before.before.free-count.ensures _ c.before.before.before.before.before.before.before.before.before.room162.ensures, omega (arith, h.each_long)))
 
 rest-in-requires : tie.Need-rest-in-requires
 rest-in-requires c κs =
     let g = c.before.before.before.before.before.before.before.before.before.before.before.before.before.before.before.before.before.before.before.before.before.before.before.before.before.before.before.args in
     let s = min (length g.order.now) (min (length g.rhs.now) (length g.out.now)) in
     let h = solve_ready g.st g.order.now g.rhs.now g.store.now g.out.now c.before.before.before.before.before.before.before.before.before.before.before.before.before.before.before.before.before.before.before.before.before.before.if1.false c.before.before.before.before.before.before.before.before.before.before.before.before.before.before.before.before.before.before.before.before.before.check-solve.ensures c.before.before.before.before.before.before.before.before.before.before.before.before.before.before.before.before.before.before.before.before.if2.false in
-    ready-reducible g.st g.store.now s h c.before.before.before.before.before.before.before.before.before.before.before.before.before.before.before.before.before.before.before.free-count.ensures
+    ready_reducible g.st g.store.now s h c.before.before.before.before.before.before.before.before.before.before.before.before.before.before.before.before.before.before.before.free-count.ensures
 
 same-length-3 : tie.Need-same-length-3
 same-length-3 c = search rules

@@ -9,7 +9,7 @@ use Rattle.factor.specs.Outcome.{read_of as Read-of}
 use Rattle.factor.specs.HeldCalls.{solve_call}
 use Rattle.factor.specs.declared.state.State.{State as Plain}
 use Rattle.calls.specs.HeldCalls.{marked_read}
-use Rattle.calls.proofs.Backs.{free-few, ready-reducible, first-long, small-fits, small-long, step_fits, step_long}
+use Rattle.calls.proofs.Backs.{free_few, ready_reducible, first_long, small_fits, small_long, step_fits, step_long}
 use Rattle.calls.proofs.Helds.{put-fits, solve-unmarked, solve-refused, solve_ready, solve-worked}
 use Rattle.calls.proofs.cholesky.solve_read.Statement.{statement}
 use Rattle.calls.proofs.cholesky.solve_read.Tie as tie
@@ -45,7 +45,7 @@ store-need-requires c κs =
     let g = c.before.before.before.before.before.before.before.before.args in
     let s = min (length g.order.now) (min (length g.rhs.now) (length g.out.now)) in
     let h = solve_ready g.st g.order.now g.rhs.now g.store.now g.out.now c.before.before.before.if1.false c.before.before.check-solve.ensures c.before.if2.false in
-    free-few g.st g.store.now s h c.free-count.ensures
+    free_few g.st g.store.now s h c.free-count.ensures
 
 room320-requires : tie.Need-room320-requires
 room320-requires c κs = search rules
@@ -82,7 +82,7 @@ slice-aggregate-solve-frozen c =
     let g = c.before.before.before.before.before.before.before.before.before.before.before.before.before.before.before.before.args in
     let s = min (length g.order.now) (min (length g.rhs.now) (length g.out.now)) in
     let h = solve_ready g.st g.order.now g.rhs.now g.store.now g.out.now c.before.before.before.before.before.before.before.before.before.before.before.if1.false c.before.before.before.before.before.before.before.before.before.before.check-solve.ensures c.before.before.before.before.before.before.before.before.before.if2.false in
-    sym (first-long g.st g.store.now s h c.before.before.before.before.before.before.before.before.free-count.ensures g.order.now (omega (arith, h.each_long)))
+    sym (first_long g.st g.store.now s h c.before.before.before.before.before.before.before.before.free-count.ensures g.order.now (omega (arith, h.each_long)))
 
 array-share-prefix-bs : tie.Need-array-share-prefix-bs
 array-share-prefix-bs c =
@@ -103,14 +103,14 @@ array-borrow-prefix-small c =
     let g = c.before.before.before.before.before.before.before.before.before.before.before.before.before.before.before.before.before.args in
     let s = min (length g.order.now) (min (length g.rhs.now) (length g.out.now)) in
     let h = solve_ready g.st g.order.now g.rhs.now g.store.now g.out.now c.before.before.before.before.before.before.before.before.before.before.before.before.if1.false c.before.before.before.before.before.before.before.before.before.before.before.check-solve.ensures c.before.before.before.before.before.before.before.before.before.before.if2.false in
-    small-fits g.st g.store.now s h c.before.before.before.before.before.before.before.before.before.free-count.ensures _ c.before.before.before.before.before.before.before.before.store-need.ensures c.before.before.before.before.before.before.before.room320.ensures
+    small_fits g.st g.store.now s h c.before.before.before.before.before.before.before.before.before.free-count.ensures _ c.before.before.before.before.before.before.before.before.store-need.ensures c.before.before.before.before.before.before.before.room320.ensures
 
 slice-aggregate-solve-frozen-3 : tie.Need-slice-aggregate-solve-frozen-3
 slice-aggregate-solve-frozen-3 c =
     let g = c.before.before.before.before.before.before.before.before.before.before.before.before.before.before.before.before.before.before.args in
     let s = min (length g.order.now) (min (length g.rhs.now) (length g.out.now)) in
     let h = solve_ready g.st g.order.now g.rhs.now g.store.now g.out.now c.before.before.before.before.before.before.before.before.before.before.before.before.before.if1.false c.before.before.before.before.before.before.before.before.before.before.before.before.check-solve.ensures c.before.before.before.before.before.before.before.before.before.before.before.if2.false in
-    sym (small-long g.st g.store.now s h c.before.before.before.before.before.before.before.before.before.before.free-count.ensures _ c.before.before.before.before.before.before.before.before.before.store-need.ensures c.before.before.before.before.before.before.before.before.room320.ensures)
+    sym (small_long g.st g.store.now s h c.before.before.before.before.before.before.before.before.before.before.free-count.ensures _ c.before.before.before.before.before.before.before.before.before.store-need.ensures c.before.before.before.before.before.before.before.before.room320.ensures)
 
 array-borrow-prefix-x : tie.Need-array-borrow-prefix-x
 array-borrow-prefix-x c =
@@ -131,8 +131,8 @@ solve-frozen-requires c κs =
     let g = c.before.before.before.before.before.before.before.before.before.before.before.before.before.before.before.before.before.before.before.before.args in
     let s = min (length g.order.now) (min (length g.rhs.now) (length g.out.now)) in
     let h = solve_ready g.st g.order.now g.rhs.now g.store.now g.out.now c.before.before.before.before.before.before.before.before.before.before.before.before.before.before.before.if1.false c.before.before.before.before.before.before.before.before.before.before.before.before.before.before.check-solve.ensures c.before.before.before.before.before.before.before.before.before.before.before.before.before.if2.false in
-    let small = small-long g.st g.store.now s h c.before.before.before.before.before.before.before.before.before.before.before.before.free-count.ensures _ c.before.before.before.before.before.before.before.before.before.before.before.store-need.ensures c.before.before.before.before.before.before.before.before.before.before.room320.ensures ∙ c.before.before.before.before.before.before.before.before.before.before.before.store-need.ensures in
-    (ready-reducible g.st g.store.now s h c.before.before.before.before.before.before.before.before.before.before.before.before.free-count.ensures, (small, step_long g.st g.store.now s h c.before.before.before.before.before.before.before.before.before.before.before.before.free-count.ensures _ c.before.before.before.before.before.before.before.before.room162.ensures, omega (arith, h.each_long)))
+    let small = small_long g.st g.store.now s h c.before.before.before.before.before.before.before.before.before.before.before.before.free-count.ensures _ c.before.before.before.before.before.before.before.before.before.before.before.store-need.ensures c.before.before.before.before.before.before.before.before.before.before.room320.ensures ∙ c.before.before.before.before.before.before.before.before.before.before.before.store-need.ensures in
+    (ready_reducible g.st g.store.now s h c.before.before.before.before.before.before.before.before.before.before.before.before.free-count.ensures, (small, step_long g.st g.store.now s h c.before.before.before.before.before.before.before.before.before.before.before.before.free-count.ensures _ c.before.before.before.before.before.before.before.before.room162.ensures, omega (arith, h.each_long)))
 
 same-length-2 : tie.Need-same-length-2
 same-length-2 c = search rules

@@ -3,7 +3,7 @@ use mathlib.Core.Path.{sym, ◌∙◌}
 use borrow.Author.Rules.{rules}
 use borrow.Author.Tests.{not-true, not-false}
 use lib.Seq.{length-take-le}
-use Rattle.calls.proofs.Damps.{diag_long, damped-stopped, damped-unfit, damped-passed}
+use Rattle.calls.proofs.Damps.{diag_long, damped-stopped, damped_unfit, damped_passed}
 use Rattle.calls.proofs.least_squares.check_damped.Statement.{statement}
 use Rattle.calls.proofs.least_squares.check_damped.Tie as tie
 
@@ -29,7 +29,7 @@ all-finite-requires c κs = search rules
 returns-2 : tie.Need-returns-2
 returns-2 c =
     let g = c.before.before.before.before.before.before.before.before.args in
-    damped-unfit g.st g.diag.now g.order.now g.store g.out c.before.before.before.before.ordered.ensures c.before.before.before.before.before.least.ensures c.before.before.before.if1.false (sym c.before.all-finite.ensures ∙ not-true _ c.if2.true)
+    damped_unfit g.st g.diag.now g.order.now g.store g.out c.before.before.before.before.ordered.ensures c.before.before.before.before.before.least.ensures c.before.before.before.if1.false (sym c.before.all-finite.ensures ∙ not-true _ c.if2.true)
 
 some-free-requires : tie.Need-some-free-requires
 some-free-requires c κs = search rules
@@ -37,7 +37,7 @@ some-free-requires c κs = search rules
 returns-3 : tie.Need-returns-3
 returns-3 c =
     let g = c.before.before.before.before.before.before.before.before.before.args in
-    damped-passed g.st g.diag.now g.order.now g.store g.out c.before.before.before.before.before.ordered.ensures c.before.before.before.before.before.before.least.ensures c.before.before.before.before.if1.false (sym c.before.before.all-finite.ensures ∙ not-false _ c.before.if2.false) c.some-free.ensures
+    damped_passed g.st g.diag.now g.order.now g.store g.out c.before.before.before.before.before.ordered.ensures c.before.before.before.before.before.before.least.ensures c.before.before.before.before.if1.false (sym c.before.before.all-finite.ensures ∙ not-false _ c.before.if2.false) c.some-free.ensures
 
 pub check-damped-spec : {M : Type 1} → statement M
 check-damped-spec =

@@ -4,7 +4,7 @@ use borrow.Author.Rules.{rules}
 use lib.Seq.{length-take-le}
 use Rattle.factor.specs.Solves.{damped_call}
 use Rattle.factor.specs.declared.state.State.{State as Plain}
-use Rattle.calls.proofs.Backs.{ended-unmarked, ready-reducible, free-few, first-long, small-fits, small-long, step_fits, step_long}
+use Rattle.calls.proofs.Backs.{ended-unmarked, ready_reducible, free_few, first_long, small_fits, small_long, step_fits, step_long}
 use Rattle.calls.proofs.Damps.{Lent, front_fits, call-unmarked, call-stopped, passed, call-worked}
 use Rattle.calls.proofs.least_squares.solve_with_diagonal.Statement.{statement}
 use Rattle.calls.proofs.least_squares.solve_with_diagonal.Tie as tie
@@ -47,7 +47,7 @@ free-count-requires : tie.Need-free-count-requires
 free-count-requires c κs = search rules
 
 store-need-requires : tie.Need-store-need-requires
-store-need-requires c κs = let l = lent c in free-few _ _ _ l.ready l.counted
+store-need-requires c κs = let l = lent c in free_few _ _ _ l.ready l.counted
 
 room320-requires : tie.Need-room320-requires
 room320-requires c κs = search rules
@@ -76,7 +76,7 @@ gather-in-requires c κs =
 slice-aggregate-damped-frozen : tie.Need-slice-aggregate-damped-frozen
 slice-aggregate-damped-frozen c =
     let l = lent c.before.before.before.before.before.before.before.before.before in
-    sym (first-long _ _ _ l.ready l.counted c.before.before.before.before.before.before.before.before.before.before.before.before.before.before.before.before.before.args.order.now l.order_fits)
+    sym (first_long _ _ _ l.ready l.counted c.before.before.before.before.before.before.before.before.before.before.before.before.before.before.before.before.before.args.order.now l.order_fits)
 
 array-share-prefix-ds : tie.Need-array-share-prefix-ds
 array-share-prefix-ds c =
@@ -93,12 +93,12 @@ slice-aggregate-damped-frozen-2 c =
 array-borrow-prefix-small : tie.Need-array-borrow-prefix-small
 array-borrow-prefix-small c =
     let l = lent c.before.before.before.before.before.before.before.before.before.before in
-    small-fits _ _ _ l.ready l.counted _ c.before.before.before.before.before.before.before.before.before.store-need.ensures c.before.before.before.before.before.before.before.before.room320.ensures
+    small_fits _ _ _ l.ready l.counted _ c.before.before.before.before.before.before.before.before.before.store-need.ensures c.before.before.before.before.before.before.before.before.room320.ensures
 
 slice-aggregate-damped-frozen-3 : tie.Need-slice-aggregate-damped-frozen-3
 slice-aggregate-damped-frozen-3 c =
     let l = lent c.before.before.before.before.before.before.before.before.before.before.before in
-    sym (small-long _ _ _ l.ready l.counted _ c.before.before.before.before.before.before.before.before.before.before.store-need.ensures c.before.before.before.before.before.before.before.before.before.room320.ensures)
+    sym (small_long _ _ _ l.ready l.counted _ c.before.before.before.before.before.before.before.before.before.before.store-need.ensures c.before.before.before.before.before.before.before.before.before.room320.ensures)
 
 array-borrow-prefix-x : tie.Need-array-borrow-prefix-x
 array-borrow-prefix-x c =
@@ -114,7 +114,7 @@ damped-frozen-requires : tie.Need-damped-frozen-requires
 damped-frozen-requires c κs =
     let l = lent c.before.before.before.before.before.before.before.before.before.before.before.before.before in
     let w = c.before.before.before.before.before.before.before.before.before.before.before.before.store-need.ensures in
-    (ready-reducible _ _ _ l.ready l.counted, (small-long _ _ _ l.ready l.counted _ w c.before.before.before.before.before.before.before.before.before.before.before.room320.ensures ∙ w, step_long _ _ _ l.ready l.counted _ c.before.before.before.before.before.before.before.before.before.room162.ensures, l.out_fits))
+    (ready_reducible _ _ _ l.ready l.counted, (small_long _ _ _ l.ready l.counted _ w c.before.before.before.before.before.before.before.before.before.before.before.room320.ensures ∙ w, step_long _ _ _ l.ready l.counted _ c.before.before.before.before.before.before.before.before.before.room162.ensures, l.out_fits))
 
 same-length-3 : tie.Need-same-length-3
 same-length-3 c = search rules

@@ -17,8 +17,8 @@ use Rattle.calls.specs.State.{cols, whole, without_frozen}
 use Rattle.calls.specs.Tests.{form_test, marked_solve_tests, free_test}
 use Rattle.calls.specs.Outcome.{MarkedEnded, marked_ended, ended_as, narrowed_in, emptied_by}
 use Rattle.calls.specs.Solves.{marked_zero}
-use Rattle.calls.proofs.Passed.{Ready, room-ready, by-no-mark, by-refusal, by-working}
-use Rattle.calls.proofs.Backs.{ended-unmarked, ready-reducible, free-few, first-long, small-fits, small-long, step_fits, step_long, of-lent}
+use Rattle.calls.proofs.Passed.{Ready, room_ready, by_no_mark, by_refusal, by_working}
+use Rattle.calls.proofs.Backs.{ended-unmarked, ready_reducible, free_few, first_long, small_fits, small_long, step_fits, step_long, of_lent}
 use Rattle.calls.proofs.least_squares.solve_with_zero_diagonal.Statement.{statement}
 use Rattle.calls.proofs.least_squares.solve_with_zero_diagonal.Tie as tie
 
@@ -38,22 +38,22 @@ module _ (st : State) (order : List ℕ) (store out : List Float) where
   abbrev refusal : ℕ → MarkedEnded (Unit {0})
   refusal k = marked_ended (refused k) st store out
 
-  is-unmarked : {x : MarkedEnded (Unit {0})} → st.marks ≡ 0 → x ≡ unmarked → x ≡ marked_zero st order store out
+  is_unmarked : {x : MarkedEnded (Unit {0})} → st.marks ≡ 0 → x ≡ unmarked → x ≡ marked_zero st order store out
   unfolding marked_zero
-  is-unmarked m h = h ∙ by-no-mark st.marks tests unmarked worked refusal m
+  is_unmarked m h = h ∙ by_no_mark st.marks tests unmarked worked refusal m
 
   module _ {c : ℕ} (m : st.marks ≡ 0 → ⊥) (e : c ≡ first_of tests) where
-    is-refused : (c ≡ 0 → ⊥) → refusal c ≡ marked_zero st order store out
+    is_refused : (c ≡ 0 → ⊥) → refusal c ≡ marked_zero st order store out
     unfolding marked_zero
-    is-refused = by-refusal st.marks tests unmarked worked refusal m e
+    is_refused = by_refusal st.marks tests unmarked worked refusal m e
 
-    is-worked : {x : MarkedEnded (Unit {0})} → c ≡ 0 → x ≡ worked → x ≡ marked_zero st order store out
+    is_worked : {x : MarkedEnded (Unit {0})} → c ≡ 0 → x ≡ worked → x ≡ marked_zero st order store out
     unfolding marked_zero
-    is-worked z h = h ∙ by-working st.marks tests unmarked worked refusal m e z
+    is_worked z h = h ∙ by_working st.marks tests unmarked worked refusal m e z
 
   module _ {c : ℕ} (e : c ≡ first_of tests) (z : c ≡ 0) where
     ready : Ready st store (min (length order) (length out))
-    ready = room-ready st store (min (length order) (length out)) (form_test st order ∷ []) refl (sym e ∙ z)
+    ready = room_ready st store (min (length order) (length out)) (form_test st order ∷ []) refl (sym e ∙ z)
 
     order_long : st.n ≤ length order
     order_long = let l = ready.each_long in omega arith
@@ -80,7 +80,7 @@ returns : tie.Need-returns
 returns c =
     let g = c.before.before.before.before.before.before.before.before.before.before.before.before.before.before.args in
     let call : Plain → outcome.Ended (Unit {0}) = λ p. plain.zeroCall p g.order.now g.store.now g.out.now in
-    is-unmarked g.st g.order.now g.store.now g.out.now c.before.before.before.before.before.before.before.before.before.before.if1.true (ended-unmarked g.st call c.before.before.before.before.before.before.before.before.before.whole.ensures c.before.before.before.before.before.before.solve-with-zero-diagonal.ensures c.marked.ensures)
+    is_unmarked g.st g.order.now g.store.now g.out.now c.before.before.before.before.before.before.before.before.before.before.if1.true (ended-unmarked g.st call c.before.before.before.before.before.before.before.before.before.whole.ensures c.before.before.before.before.before.before.solve-with-zero-diagonal.ensures c.marked.ensures)
 
 check-zero-requires : tie.Need-check-zero-requires
 check-zero-requires c κs = search rules
@@ -88,7 +88,7 @@ check-zero-requires c κs = search rules
 returns-2 : tie.Need-returns-2
 returns-2 c =
     let g = c.before.before.before.before.before.before.args in
-    is-refused g.st g.order.now g.store.now g.out.now c.before.before.if1.false c.before.check-zero.ensures c.if2.true
+    is_refused g.st g.order.now g.store.now g.out.now c.before.before.if1.false c.before.check-zero.ensures c.if2.true
 
 free-count-requires : tie.Need-free-count-requires
 free-count-requires c κs = search rules
@@ -97,7 +97,7 @@ store-need-requires : tie.Need-store-need-requires
 store-need-requires c κs =
     let g = c.before.before.before.before.before.before.before.args in
     let r = ready g.st g.order.now g.store.now g.out.now c.before.before.check-zero.ensures c.before.if2.false in
-    free-few g.st g.store.now _ r c.free-count.ensures
+    free_few g.st g.store.now _ r c.free-count.ensures
 
 room320-requires : tie.Need-room320-requires
 room320-requires c κs = search rules
@@ -111,19 +111,19 @@ slice-aggregate-zero-frozen c =
     let e = c.before.before.before.before.before.before.before.check-zero.ensures in
     let z = c.before.before.before.before.before.before.if2.false in
     let r = ready g.st g.order.now g.store.now g.out.now e z in
-    sym (first-long g.st g.store.now _ r c.before.before.before.before.before.free-count.ensures g.order.now (order_long g.st g.order.now g.store.now g.out.now e z))
+    sym (first_long g.st g.store.now _ r c.before.before.before.before.before.free-count.ensures g.order.now (order_long g.st g.order.now g.store.now g.out.now e z))
 
 array-borrow-prefix-small : tie.Need-array-borrow-prefix-small
 array-borrow-prefix-small c =
     let g = c.before.before.before.before.before.before.before.before.before.before.before.before.args in
     let r = ready g.st g.order.now g.store.now g.out.now c.before.before.before.before.before.before.before.check-zero.ensures c.before.before.before.before.before.before.if2.false in
-    small-fits g.st g.store.now _ r c.before.before.before.before.before.free-count.ensures _ c.before.before.before.before.store-need.ensures c.before.before.before.room320.ensures
+    small_fits g.st g.store.now _ r c.before.before.before.before.before.free-count.ensures _ c.before.before.before.before.store-need.ensures c.before.before.before.room320.ensures
 
 slice-aggregate-zero-frozen-2 : tie.Need-slice-aggregate-zero-frozen-2
 slice-aggregate-zero-frozen-2 c =
     let g = c.before.before.before.before.before.before.before.before.before.before.before.before.before.args in
     let r = ready g.st g.order.now g.store.now g.out.now c.before.before.before.before.before.before.before.before.check-zero.ensures c.before.before.before.before.before.before.before.if2.false in
-    sym (small-long g.st g.store.now _ r c.before.before.before.before.before.before.free-count.ensures _ c.before.before.before.before.before.store-need.ensures c.before.before.before.before.room320.ensures)
+    sym (small_long g.st g.store.now _ r c.before.before.before.before.before.before.free-count.ensures _ c.before.before.before.before.before.store-need.ensures c.before.before.before.before.room320.ensures)
 
 array-borrow-prefix-x : tie.Need-array-borrow-prefix-x
 array-borrow-prefix-x c =
@@ -145,8 +145,8 @@ zero-frozen-requires c κs =
     let r = ready g.st g.order.now g.store.now g.out.now e z in
     let f = c.before.before.before.before.before.before.before.before.free-count.ensures in
     let need = c.before.before.before.before.before.before.before.store-need.ensures in
-    let small = small-long g.st g.store.now _ r f _ need c.before.before.before.before.before.before.room320.ensures ∙ need in
-    (ready-reducible g.st g.store.now _ r f, (small, step_long g.st g.store.now _ r f _ c.before.before.before.before.before.room16.ensures, out_long g.st g.order.now g.store.now g.out.now e z))
+    let small = small_long g.st g.store.now _ r f _ need c.before.before.before.before.before.before.room320.ensures ∙ need in
+    (ready_reducible g.st g.store.now _ r f, (small, step_long g.st g.store.now _ r f _ c.before.before.before.before.before.room16.ensures, out_long g.st g.order.now g.store.now g.out.now e z))
 
 same-length-3 : tie.Need-same-length-3
 same-length-3 c = search rules
@@ -163,8 +163,8 @@ returns-3 c =
     let out = g.out.now in
     let e = c.before.before.before.before.before.before.before.before.before.before.before.before.before.before.before.before.before.check-zero.ensures in
     let z = c.before.before.before.before.before.before.before.before.before.before.before.before.before.before.before.before.if2.false in
-    let lent = of-lent st store _ (ready st order store out e z) c.before.before.before.before.before.before.before.before.before.before.before.before.before.before.before.free-count.ensures (working st order store out) order _ c.before.before.before.before.before.before.before.before.before.before.before.before.room16.ensures in
-    is-worked st order store out c.before.before.before.before.before.before.before.before.before.before.before.before.before.before.before.before.before.before.if1.false e z (c.before.before.before.before.before.before.zero-frozen.ensures ∙ lent)
+    let lent = of_lent st store _ (ready st order store out e z) c.before.before.before.before.before.before.before.before.before.before.before.before.before.before.before.free-count.ensures (working st order store out) order _ c.before.before.before.before.before.before.before.before.before.before.before.before.room16.ensures in
+    is_worked st order store out c.before.before.before.before.before.before.before.before.before.before.before.before.before.before.before.before.before.before.if1.false e z (c.before.before.before.before.before.before.zero-frozen.ensures ∙ lent)
 
 pub solve-with-zero-diagonal-spec : {M : Type 1} → statement M
 solve-with-zero-diagonal-spec =

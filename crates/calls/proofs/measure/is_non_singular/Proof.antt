@@ -8,7 +8,7 @@ use Rattle.calls.specs.State.{without_frozen}
 use Rattle.calls.specs.Outcome.{narrowed_in}
 use Rattle.calls.specs.Measures.{marked_non_singular}
 use Rattle.calls.proofs.Measured.{rank_tests, rank_ready}
-use Rattle.calls.proofs.Resting.{small-fits, small-long, counted-few, counted-in, rest-unmarked, rest-refused, rest-worked}
+use Rattle.calls.proofs.Resting.{small_fits, small_long, counted_few, counted_in, rest_unmarked, rest_refused, rest_worked}
 use Rattle.calls.proofs.measure.is_non_singular.Statement.{statement}
 use Rattle.calls.proofs.measure.is_non_singular.Tie as tie
 
@@ -29,7 +29,7 @@ unfolding marked_non_singular
 returns c =
     let g = c.before.before.before.before.before.before.before.before.before.args in
     let s = g.store.now in
-    rest-unmarked g.st s (rank_tests g.st (length s)) (λ (p : Plain). plain.nonSingularCall p s) (plain.nonSingularCall (without_frozen g.st) (narrowed_in g.st s))
+    rest_unmarked g.st s (rank_tests g.st (length s)) (λ (p : Plain). plain.nonSingularCall p s) (plain.nonSingularCall (without_frozen g.st) (narrowed_in g.st s))
     c.before.before.before.before.before.before.before.if1.true c.before.before.before.before.before.before.whole.ensures c.before.before.before.before.is-non-singular.ensures c.marked.ensures
 
 check-room-requires : tie.Need-check-room-requires
@@ -40,7 +40,7 @@ unfolding marked_non_singular
 returns-2 c =
     let g = c.before.before.before.before.args in
     let s = g.store.now in
-    rest-refused g.st s (rank_tests g.st (length s)) (λ (p : Plain). plain.nonSingularCall p s) (plain.nonSingularCall (without_frozen g.st) (narrowed_in g.st s))
+    rest_refused g.st s (rank_tests g.st (length s)) (λ (p : Plain). plain.nonSingularCall p s) (plain.nonSingularCall (without_frozen g.st) (narrowed_in g.st s))
     c.before.before.if1.false c.before.check-room.ensures c.if2.true
 
 free-count-requires : tie.Need-free-count-requires
@@ -50,7 +50,7 @@ store-need-requires : tie.Need-store-need-requires
 store-need-requires c κs =
     let g = c.before.before.before.before.before.args in
     let r = rank_ready g.st g.store.now c.before.before.check-room.ensures c.before.if2.false in
-    counted-few r c.free-count.ensures
+    counted_few r c.free-count.ensures
 
 room320-requires : tie.Need-room320-requires
 room320-requires c κs = search rules
@@ -59,20 +59,20 @@ array-borrow-prefix-small : tie.Need-array-borrow-prefix-small
 array-borrow-prefix-small c =
     let g = c.before.before.before.before.before.before.before.before.args in
     let r = rank_ready g.st g.store.now c.before.before.before.before.before.check-room.ensures c.before.before.before.before.if2.false in
-    small-fits c.before.room320.ensures c.before.before.store-need.ensures (counted-few r c.before.before.before.free-count.ensures)
+    small_fits c.before.room320.ensures c.before.before.store-need.ensures (counted_few r c.before.before.before.free-count.ensures)
 
 slice-aggregate-rank-frozen : tie.Need-slice-aggregate-rank-frozen
 slice-aggregate-rank-frozen c =
     let g = c.before.before.before.before.before.before.before.before.before.args in
     let r = rank_ready g.st g.store.now c.before.before.before.before.before.before.check-room.ensures c.before.before.before.before.before.if2.false in
-    sym (small-long c.before.before.room320.ensures c.before.before.before.store-need.ensures (counted-few r c.before.before.before.before.free-count.ensures))
+    sym (small_long c.before.before.room320.ensures c.before.before.before.store-need.ensures (counted_few r c.before.before.before.before.free-count.ensures))
 
 rank-frozen-requires : tie.Need-rank-frozen-requires
 rank-frozen-requires c κs =
     let g = c.before.before.before.before.before.before.before.before.before.args in
     let r = rank_ready g.st g.store.now c.before.before.before.before.before.before.check-room.ensures c.before.before.before.before.before.if2.false in
     let f = c.before.before.before.before.free-count.ensures in
-    (counted-in r f, small-long c.before.before.room320.ensures c.before.before.before.store-need.ensures (counted-few r f) ∙ c.before.before.before.store-need.ensures)
+    (counted_in r f, small_long c.before.before.room320.ensures c.before.before.before.store-need.ensures (counted_few r f) ∙ c.before.before.before.store-need.ensures)
 
 same-length-2 : tie.Need-same-length-2
 same-length-2 c = search rules
@@ -82,7 +82,7 @@ unfolding marked_non_singular
 returns-3 c =
     let g = c.before.before.before.before.before.before.before.before.before.before.before.before.before.args in
     let s = g.store.now in
-    rest-worked g.st s (rank_tests g.st (length s)) (λ (p : Plain). plain.nonSingularCall p s) (plain.nonSingularCall (without_frozen g.st) (narrowed_in g.st s))
+    rest_worked g.st s (rank_tests g.st (length s)) (λ (p : Plain). plain.nonSingularCall p s) (plain.nonSingularCall (without_frozen g.st) (narrowed_in g.st s))
     c.before.before.before.before.before.before.before.before.before.before.before.if1.false c.before.before.before.before.before.before.before.before.before.before.check-room.ensures c.before.before.before.before.before.before.before.before.before.if2.false c.before.before.before.rank-frozen.ensures
 
 pub is-non-singular-spec : {M : Type 1} → statement M

@@ -9,7 +9,7 @@ use Rattle.calls.specs.State.{cols, without_frozen}
 use Rattle.calls.specs.Outcome.{narrowed_in}
 use Rattle.calls.specs.Measures.{marked_gradient}
 use Rattle.calls.proofs.Measured.{gradient_tests, gradient_ready, gradient_read}
-use Rattle.calls.proofs.Resting.{small-fits, small-long, counted-few, counted-each, counted-in, rest-unmarked, rest-refused, rest-worked}
+use Rattle.calls.proofs.Resting.{small_fits, small_long, counted_few, counted_each, counted_in, rest_unmarked, rest_refused, rest_worked}
 use Rattle.calls.proofs.measure.max_a_t_b_scaled.Statement.{statement}
 use Rattle.calls.proofs.measure.max_a_t_b_scaled.Tie as tie
 
@@ -31,7 +31,7 @@ returns c =
     let g = c.before.before.before.before.before.before.before.before.before.before.args in
     let s = g.store.now in
     let o = g.order.now in
-    rest-unmarked g.st s (gradient_tests g.st (length s) o g.bnorm) (λ (p : Plain). plain.gradientCall p o g.bnorm s)
+    rest_unmarked g.st s (gradient_tests g.st (length s) o g.bnorm) (λ (p : Plain). plain.gradientCall p o g.bnorm s)
     (plain.gradientCall (without_frozen g.st) (take (cols g.st) o) g.bnorm (narrowed_in g.st s)) c.before.before.before.before.before.before.before.if1.true c.before.before.before.before.before.before.whole.ensures c.before.before.before.before.max-a-t-b-scaled.ensures c.marked.ensures
 
 check-gradient-requires : tie.Need-check-gradient-requires
@@ -43,7 +43,7 @@ returns-2 c =
     let g = c.before.before.before.before.before.args in
     let s = g.store.now in
     let o = g.order.now in
-    rest-refused g.st s (gradient_tests g.st (length s) o g.bnorm) (λ (p : Plain). plain.gradientCall p o g.bnorm s)
+    rest_refused g.st s (gradient_tests g.st (length s) o g.bnorm) (λ (p : Plain). plain.gradientCall p o g.bnorm s)
     (plain.gradientCall (without_frozen g.st) (take (cols g.st) o) g.bnorm (narrowed_in g.st s)) c.before.before.if1.false c.before.check-gradient.ensures c.if2.true
 
 free-count-requires : tie.Need-free-count-requires
@@ -53,7 +53,7 @@ store-need-requires : tie.Need-store-need-requires
 store-need-requires c κs =
     let g = c.before.before.before.before.before.before.args in
     let r = gradient_ready g.st g.store.now g.order.now g.bnorm c.before.before.check-gradient.ensures c.before.if2.false in
-    counted-few r c.free-count.ensures
+    counted_few r c.free-count.ensures
 
 room320-requires : tie.Need-room320-requires
 room320-requires c κs = search rules
@@ -62,26 +62,26 @@ slice-aggregate-gradient-frozen : tie.Need-slice-aggregate-gradient-frozen
 slice-aggregate-gradient-frozen c =
     let g = c.before.before.before.before.before.before.before.before.before.before.args in
     let r = gradient_ready g.st g.store.now g.order.now g.bnorm c.before.before.before.before.before.before.check-gradient.ensures c.before.before.before.before.before.if2.false in
-    sym (length-take-le c.before.before.before.before.free-count.result g.order.now (counted-each r c.before.before.before.before.free-count.ensures))
+    sym (length-take-le c.before.before.before.before.free-count.result g.order.now (counted_each r c.before.before.before.before.free-count.ensures))
 
 array-borrow-prefix-small : tie.Need-array-borrow-prefix-small
 array-borrow-prefix-small c =
     let g = c.before.before.before.before.before.before.before.before.before.before.args in
     let r = gradient_ready g.st g.store.now g.order.now g.bnorm c.before.before.before.before.before.before.check-gradient.ensures c.before.before.before.before.before.if2.false in
-    small-fits c.before.before.room320.ensures c.before.before.before.store-need.ensures (counted-few r c.before.before.before.before.free-count.ensures)
+    small_fits c.before.before.room320.ensures c.before.before.before.store-need.ensures (counted_few r c.before.before.before.before.free-count.ensures)
 
 slice-aggregate-gradient-frozen-2 : tie.Need-slice-aggregate-gradient-frozen-2
 slice-aggregate-gradient-frozen-2 c =
     let g = c.before.before.before.before.before.before.before.before.before.before.before.args in
     let r = gradient_ready g.st g.store.now g.order.now g.bnorm c.before.before.before.before.before.before.before.check-gradient.ensures c.before.before.before.before.before.before.if2.false in
-    sym (small-long c.before.before.before.room320.ensures c.before.before.before.before.store-need.ensures (counted-few r c.before.before.before.before.before.free-count.ensures))
+    sym (small_long c.before.before.before.room320.ensures c.before.before.before.before.store-need.ensures (counted_few r c.before.before.before.before.before.free-count.ensures))
 
 gradient-frozen-requires : tie.Need-gradient-frozen-requires
 gradient-frozen-requires c κs =
     let g = c.before.before.before.before.before.before.before.before.before.before.before.args in
     let r = gradient_ready g.st g.store.now g.order.now g.bnorm c.before.before.before.before.before.before.before.check-gradient.ensures c.before.before.before.before.before.before.if2.false in
     let f = c.before.before.before.before.before.free-count.ensures in
-    (counted-in r f, small-long c.before.before.before.room320.ensures c.before.before.before.before.store-need.ensures (counted-few r f) ∙ c.before.before.before.before.store-need.ensures)
+    (counted_in r f, small_long c.before.before.before.room320.ensures c.before.before.before.before.store-need.ensures (counted_few r f) ∙ c.before.before.before.before.store-need.ensures)
 
 same-length-2 : tie.Need-same-length-2
 same-length-2 c = search rules
@@ -92,7 +92,7 @@ returns-3 c =
     let g = c.before.before.before.before.before.before.before.before.before.before.before.before.before.before.before.args in
     let s = g.store.now in
     let o = g.order.now in
-    rest-worked g.st s (gradient_tests g.st (length s) o g.bnorm) (λ (p : Plain). plain.gradientCall p o g.bnorm s)
+    rest_worked g.st s (gradient_tests g.st (length s) o g.bnorm) (λ (p : Plain). plain.gradientCall p o g.bnorm s)
     (plain.gradientCall (without_frozen g.st) (take (cols g.st) o) g.bnorm (narrowed_in g.st s)) c.before.before.before.before.before.before.before.before.before.before.before.before.if1.false c.before.before.before.before.before.before.before.before.before.before.before.check-gradient.ensures c.before.before.before.before.before.before.before.before.before.before.if2.false
     (gradient_read g.st s o g.bnorm c.before.before.before.before.before.before.before.before.before.free-count.ensures c.before.before.before.gradient-frozen.ensures)
 

@@ -7,7 +7,7 @@ use borrow.Author.Rules.{rules}
 use lib.ListN.{length, take, length-set}
 use Rattle.leaves.specs.Loop.{count_from}
 use Rattle.leaves.proofs.Overs.{over, over_turn, over_end}
-use Rattle.calls.proofs.Leavings.{counted-long, counted-at, counted_start}
+use Rattle.calls.proofs.Leavings.{counted_long, counted_at, counted_start}
 use Rattle.calls.proofs.pivoted_qr.count_on.Statement.{statement}
 use Rattle.calls.proofs.pivoted_qr.count_on.Tie as tie
 
@@ -42,11 +42,11 @@ loop-again c =
     let t = c.loop-test.true in
     let f = l.invariant.0 in
     let s = l.invariant.2 in
-    let n = counted-long g.free g.order.now (search rules) in (
+    let n = counted_long g.free g.order.now (search rules) in (
       search rules,
       simp length-set (search rules),
       simp length-set l.invariant.2,
-      over_turn 0 (take g.free g.order.now ++ count_from (length g.order.now - g.free) g.free) g.order.now l.order l.k l.k (omega arith) n (sym (counted-at g.free g.order.now (search rules) l.k l.invariant.0 (omega arith))) l.invariant.3,
+      over_turn 0 (take g.free g.order.now ++ count_from (length g.order.now - g.free) g.free) g.order.now l.order l.k l.k (omega arith) n (sym (counted_at g.free g.order.now (search rules) l.k l.invariant.0 (omega arith))) l.invariant.3,
     )
 
 same_length : tie.Need-same-length invariant-loop decreases-loop
@@ -58,7 +58,7 @@ returns c =
     let g = c.before.before.args in
     let s = l.invariant.2 in
     let e = c.loop-test.false in
-    let n = counted-long g.free g.order.now (search rules) in
+    let n = counted_long g.free g.order.now (search rules) in
     l.invariant.3 ∙ over_end (take g.free g.order.now ++ count_from (length g.order.now - g.free) g.free) g.order.now l.k (omega arith) (omega arith)
 
 pub count-on-spec : {M : Type 1} → statement M

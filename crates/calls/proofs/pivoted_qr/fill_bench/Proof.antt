@@ -4,7 +4,7 @@ use Prim.Native.Nat.{ℕ, ◌*◌}
 use native.Mathlib.Omega.{arith}
 use borrow.Author.Rules.{rules}
 use lib.Seq.{length-take-le}
-use Rattle.calls.proofs.Factors.{bench-filled}
+use Rattle.calls.proofs.Factors.{bench_filled}
 use Rattle.calls.proofs.pivoted_qr.fill_bench.Statement.{statement}
 use Rattle.calls.proofs.pivoted_qr.fill_bench.Tie as tie
 
@@ -51,7 +51,7 @@ same_length c = search rules
 returns : tie.Need-returns
 returns c =
     let g = c.before.before.before.before.before.before.before.before.before.before.before.before.args in
-    bench-filled g.m g.n g.marks g.free g.jacobian.now g.residuals.now c.before.before.before.before.before.before.before.before.before.before.before.before.requires.0 g.bench.now _ _ c.before.before.before.before.before.before.before.before.before.before.before.before.requires.1 c.before.before.before.before.before.before.before.gather-columns.ensures c.before.before.copy.ensures
+    bench_filled g.m g.n g.marks g.free g.jacobian.now g.residuals.now c.before.before.before.before.before.before.before.before.before.before.before.before.requires.0 g.bench.now _ _ c.before.before.before.before.before.before.before.before.before.before.before.before.requires.1 c.before.before.before.before.before.before.before.gather-columns.ensures c.before.before.copy.ensures
 
 pub fill-bench-spec : {M : Type 1} → statement M
 fill-bench-spec =

@@ -2,7 +2,7 @@
 use mathlib.Core.Path.{sym}
 use borrow.Author.Rules.{rules}
 use lib.Seq.{length-take-le}
-use Rattle.calls.proofs.Factors.{all-gathered, free-gathered}
+use Rattle.calls.proofs.Factors.{all_gathered, free_gathered}
 use Rattle.calls.proofs.pivoted_qr.gather_columns.Statement.{statement}
 use Rattle.calls.proofs.pivoted_qr.gather_columns.Tie as tie
 
@@ -25,7 +25,7 @@ returns : tie.Need-returns
 returns c =
     let g = c.before.before.before.before.before.before.before.before.args in
     let p = c.before.before.before.before.before.before.before.before.requires in
-    all-gathered g.m g.n g.marks g.jacobian.now g.bench.now p.0.1 p.1 _ c.before.before.before.before.before.if1.true c.before.before.copy-long.ensures
+    all_gathered g.m g.n g.marks g.jacobian.now g.bench.now p.0.1 p.1 _ c.before.before.before.before.before.if1.true c.before.before.copy-long.ensures
 
 same-length-2 : tie.Need-same-length-2
 same-length-2 c = search rules
@@ -34,7 +34,7 @@ returns-2 : tie.Need-returns-2
 returns-2 c =
     let g = c.before.before.before.before.before.before.before.args in
     let p = c.before.before.before.before.before.before.before.requires in
-    free-gathered g.m g.n g.marks g.jacobian.now g.bench.now p.0.1 p.1 _ p.0.0 c.before.before.free-columns.ensures
+    free_gathered g.m g.n g.marks g.jacobian.now g.bench.now p.0.1 p.1 _ p.0.0 c.before.before.free-columns.ensures
 
 pub gather-columns-spec : {M : Type 1} → statement M
 gather-columns-spec =

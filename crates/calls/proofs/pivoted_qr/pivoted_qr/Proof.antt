@@ -5,8 +5,8 @@ use borrow.Author.Rules.{rules}
 use lib.ListN.{length}
 use lib.Seq.{length-take-le, length_front}
 use Rattle.leaves.proofs.Insides.{inside}
-use Rattle.calls.proofs.Factors.{factorable, long-enough, area-within}
-use Rattle.calls.proofs.Factorings.{factor-refused, factor-lent, factor-whole, factor-frozen}
+use Rattle.calls.proofs.Factors.{factorable, long_enough, area_within}
+use Rattle.calls.proofs.Factorings.{factor_refused, factor_lent, factor_whole, factor_frozen}
 use Rattle.calls.proofs.Leavings.{counted_lent}
 use Rattle.calls.proofs.pivoted_qr.pivoted_qr.Statement.{statement}
 use Rattle.calls.proofs.pivoted_qr.pivoted_qr.Tie as tie
@@ -21,7 +21,7 @@ returns : tie.Need-returns
 returns c =
     let g = c.before.before.before.before.before.before.before.before.args in
     let t = c.told.ensures in
-    factor-refused g.m g.n g.marks g.jacobian.now g.residuals.now g.store.now g.order.now g.bench.now t.0 t.1 c.before.before.check-factor.ensures c.before.if1.true
+    factor_refused g.m g.n g.marks g.jacobian.now g.residuals.now g.store.now g.order.now g.bench.now t.0 t.1 c.before.before.check-factor.ensures c.before.if1.true
 
 free-count-requires : tie.Need-free-count-requires
 free-count-requires c κs = search rules
@@ -30,8 +30,8 @@ fill-bench-requires : tie.Need-fill-bench-requires
 fill-bench-requires c κs =
     let g = c.before.before.before.before.before.before.before.before.before.args in
     let r = factorable g.m g.n g.marks g.jacobian.now g.residuals.now (length g.store.now) (length g.order.now) (length g.bench.now) c.before.before.before.check-factor.ensures c.before.before.if1.false c.before.free-count.ensures in
-    let l = (long-enough g.m g.n g.marks g.jacobian.now g.residuals.now (length g.store.now) (length g.order.now) (length g.bench.now) c.before.before.before.check-factor.ensures c.before.before.if1.false c.before.free-count.ensures).bench_long in
-    let w = area-within g.m g.n g.marks c.before.free-count.result g.jacobian.now g.residuals.now r in
+    let l = (long_enough g.m g.n g.marks g.jacobian.now g.residuals.now (length g.store.now) (length g.order.now) (length g.bench.now) c.before.before.before.check-factor.ensures c.before.before.if1.false c.before.free-count.ensures).bench_long in
+    let w = area_within g.m g.n g.marks c.before.free-count.result g.jacobian.now g.residuals.now r in
     (r, omega arith)
 
 factor-filled-requires : tie.Need-factor-filled-requires
@@ -53,28 +53,28 @@ returns-2 : tie.Need-returns-2
 returns-2 c =
     let g = c.before.before.before.before.before.before.before.before.before.before.before.before.before.before.before.before.before.before.before.before.before.before.before.before.args in
     let t = c.told2.ensures in
-    let x = factor-lent g.m g.n g.marks g.jacobian.now g.residuals.now g.store.now g.order.now g.bench.now c.before.before.before.before.before.before.before.before.before.before.before.before.before.before.before.before.before.before.check-factor.ensures c.before.before.before.before.before.before.before.before.before.before.before.before.before.before.before.before.before.if1.false c.before.before.before.before.before.before.before.before.before.before.before.before.before.before.before.before.free-count.ensures c.before.before.before.before.before.before.before.before.before.before.before.before.before.before.fill-bench.ensures c.before.before.before.before.before.before.before.before.factor_filled.ensures in
-    factor-whole g.m g.n g.marks g.jacobian.now g.residuals.now g.store.now g.order.now g.bench.now c.before.before.before.before.before.before.before.before.before.before.before.before.before.before.before.before.before.before.check-factor.ensures c.before.before.before.before.before.before.before.before.before.before.before.before.before.before.before.before.before.if1.false c.before.before.before.before.before.before.before.before.before.before.before.before.before.before.before.before.free-count.ensures c.before.if2.true t.0 t.1 x
+    let x = factor_lent g.m g.n g.marks g.jacobian.now g.residuals.now g.store.now g.order.now g.bench.now c.before.before.before.before.before.before.before.before.before.before.before.before.before.before.before.before.before.before.check-factor.ensures c.before.before.before.before.before.before.before.before.before.before.before.before.before.before.before.before.before.if1.false c.before.before.before.before.before.before.before.before.before.before.before.before.before.before.before.before.free-count.ensures c.before.before.before.before.before.before.before.before.before.before.before.before.before.before.fill-bench.ensures c.before.before.before.before.before.before.before.before.factor_filled.ensures in
+    factor_whole g.m g.n g.marks g.jacobian.now g.residuals.now g.store.now g.order.now g.bench.now c.before.before.before.before.before.before.before.before.before.before.before.before.before.before.before.before.before.before.check-factor.ensures c.before.before.before.before.before.before.before.before.before.before.before.before.before.before.before.before.before.if1.false c.before.before.before.before.before.before.before.before.before.before.before.before.before.before.before.before.free-count.ensures c.before.if2.true t.0 t.1 x
 
 leave-store-requires : tie.Need-leave-store-requires
 leave-store-requires c κs =
     let g = c.before.before.before.before.before.before.before.before.before.before.before.before.before.before.before.before.before.before.before.before.before.before.before.before.args in
     let r = factorable g.m g.n g.marks g.jacobian.now g.residuals.now (length g.store.now) (length g.order.now) (length g.bench.now) c.before.before.before.before.before.before.before.before.before.before.before.before.before.before.before.before.before.before.check-factor.ensures c.before.before.before.before.before.before.before.before.before.before.before.before.before.before.before.before.before.if1.false c.before.before.before.before.before.before.before.before.before.before.before.before.before.before.before.before.free-count.ensures in
-    let l = (long-enough g.m g.n g.marks g.jacobian.now g.residuals.now (length g.store.now) (length g.order.now) (length g.bench.now) c.before.before.before.before.before.before.before.before.before.before.before.before.before.before.before.before.before.before.check-factor.ensures c.before.before.before.before.before.before.before.before.before.before.before.before.before.before.before.before.before.if1.false c.before.before.before.before.before.before.before.before.before.before.before.before.before.before.before.before.free-count.ensures).store_long in
+    let l = (long_enough g.m g.n g.marks g.jacobian.now g.residuals.now (length g.store.now) (length g.order.now) (length g.bench.now) c.before.before.before.before.before.before.before.before.before.before.before.before.before.before.before.before.before.before.check-factor.ensures c.before.before.before.before.before.before.before.before.before.before.before.before.before.before.before.before.before.if1.false c.before.before.before.before.before.before.before.before.before.before.before.before.before.before.before.before.free-count.ensures).store_long in
     let k = c.before.before.before.before.before.before.before.before.factor_filled.auto.1.1.0 in
     (r.some, r.fits, (inside g.m g.n r.inside).cols_few, omega arith)
 
 slice-relend-prefix-count-on : tie.Need-slice-relend-prefix-count-on
 slice-relend-prefix-count-on c =
     let g = c.before.before.before.before.before.before.before.before.before.before.before.before.before.before.before.before.before.before.before.before.before.before.before.before.before.before.before.args in
-    let l = (long-enough g.m g.n g.marks g.jacobian.now g.residuals.now (length g.store.now) (length g.order.now) (length g.bench.now) c.before.before.before.before.before.before.before.before.before.before.before.before.before.before.before.before.before.before.before.before.before.check-factor.ensures c.before.before.before.before.before.before.before.before.before.before.before.before.before.before.before.before.before.before.before.before.if1.false c.before.before.before.before.before.before.before.before.before.before.before.before.before.before.before.before.before.before.before.free-count.ensures).order_long in
+    let l = (long_enough g.m g.n g.marks g.jacobian.now g.residuals.now (length g.store.now) (length g.order.now) (length g.bench.now) c.before.before.before.before.before.before.before.before.before.before.before.before.before.before.before.before.before.before.before.before.before.check-factor.ensures c.before.before.before.before.before.before.before.before.before.before.before.before.before.before.before.before.before.before.before.before.if1.false c.before.before.before.before.before.before.before.before.before.before.before.before.before.before.before.before.before.before.before.free-count.ensures).order_long in
     let k = c.before.before.before.before.before.before.before.before.before.before.before.factor_filled.auto.1.1.1.0 in
     omega arith
 
 slice-aggregate-count-on : tie.Need-slice-aggregate-count-on
 slice-aggregate-count-on c =
     let g = c.before.before.before.before.before.before.before.before.before.before.before.before.before.before.before.before.before.before.before.before.before.before.before.before.before.before.before.before.args in
-    let l = (long-enough g.m g.n g.marks g.jacobian.now g.residuals.now (length g.store.now) (length g.order.now) (length g.bench.now) c.before.before.before.before.before.before.before.before.before.before.before.before.before.before.before.before.before.before.before.before.before.before.check-factor.ensures c.before.before.before.before.before.before.before.before.before.before.before.before.before.before.before.before.before.before.before.before.before.if1.false c.before.before.before.before.before.before.before.before.before.before.before.before.before.before.before.before.before.before.before.before.free-count.ensures).order_long in
+    let l = (long_enough g.m g.n g.marks g.jacobian.now g.residuals.now (length g.store.now) (length g.order.now) (length g.bench.now) c.before.before.before.before.before.before.before.before.before.before.before.before.before.before.before.before.before.before.before.before.before.before.check-factor.ensures c.before.before.before.before.before.before.before.before.before.before.before.before.before.before.before.before.before.before.before.before.before.if1.false c.before.before.before.before.before.before.before.before.before.before.before.before.before.before.before.before.before.before.before.before.free-count.ensures).order_long in
     let k = c.before.before.before.before.before.before.before.before.before.before.before.before.factor_filled.auto.1.1.1.0 in
     sym (length-take-le _ _ (omega arith))
 
@@ -82,7 +82,7 @@ count-on-requires : tie.Need-count-on-requires
 count-on-requires c κs =
     let g = c.before.before.before.before.before.before.before.before.before.before.before.before.before.before.before.before.before.before.before.before.before.before.before.before.before.before.before.before.args in
     let r = factorable g.m g.n g.marks g.jacobian.now g.residuals.now (length g.store.now) (length g.order.now) (length g.bench.now) c.before.before.before.before.before.before.before.before.before.before.before.before.before.before.before.before.before.before.before.before.before.before.check-factor.ensures c.before.before.before.before.before.before.before.before.before.before.before.before.before.before.before.before.before.before.before.before.before.if1.false c.before.before.before.before.before.before.before.before.before.before.before.before.before.before.before.before.before.before.before.before.free-count.ensures in
-    let l = (long-enough g.m g.n g.marks g.jacobian.now g.residuals.now (length g.store.now) (length g.order.now) (length g.bench.now) c.before.before.before.before.before.before.before.before.before.before.before.before.before.before.before.before.before.before.before.before.before.before.check-factor.ensures c.before.before.before.before.before.before.before.before.before.before.before.before.before.before.before.before.before.before.before.before.before.if1.false c.before.before.before.before.before.before.before.before.before.before.before.before.before.before.before.before.before.before.before.before.free-count.ensures).order_long in
+    let l = (long_enough g.m g.n g.marks g.jacobian.now g.residuals.now (length g.store.now) (length g.order.now) (length g.bench.now) c.before.before.before.before.before.before.before.before.before.before.before.before.before.before.before.before.before.before.before.before.before.before.check-factor.ensures c.before.before.before.before.before.before.before.before.before.before.before.before.before.before.before.before.before.before.before.before.before.if1.false c.before.before.before.before.before.before.before.before.before.before.before.before.before.before.before.before.before.before.before.before.free-count.ensures).order_long in
     let k = c.before.before.before.before.before.before.before.before.before.before.before.before.factor_filled.auto.1.1.1.0 in
     let e = length-take-le g.n c.before.before.before.before.before.before.before.before.before.before.before.before.factor_filled.new.1.1.1.0 (omega arith) in
     let f = r.fits in
@@ -92,7 +92,7 @@ clear-rest-requires : tie.Need-clear-rest-requires
 clear-rest-requires c κs =
     let g = c.before.before.before.before.before.before.before.before.before.before.before.before.before.before.before.before.before.before.before.before.before.before.before.before.before.before.before.before.before.before.before.before.args in
     let r = factorable g.m g.n g.marks g.jacobian.now g.residuals.now (length g.store.now) (length g.order.now) (length g.bench.now) c.before.before.before.before.before.before.before.before.before.before.before.before.before.before.before.before.before.before.before.before.before.before.before.before.before.before.check-factor.ensures c.before.before.before.before.before.before.before.before.before.before.before.before.before.before.before.before.before.before.before.before.before.before.before.before.before.if1.false c.before.before.before.before.before.before.before.before.before.before.before.before.before.before.before.before.before.before.before.before.before.before.before.before.free-count.ensures in
-    let l = (long-enough g.m g.n g.marks g.jacobian.now g.residuals.now (length g.store.now) (length g.order.now) (length g.bench.now) c.before.before.before.before.before.before.before.before.before.before.before.before.before.before.before.before.before.before.before.before.before.before.before.before.before.before.check-factor.ensures c.before.before.before.before.before.before.before.before.before.before.before.before.before.before.before.before.before.before.before.before.before.before.before.before.before.if1.false c.before.before.before.before.before.before.before.before.before.before.before.before.before.before.before.before.before.before.before.before.before.before.before.before.free-count.ensures).bench_long in
+    let l = (long_enough g.m g.n g.marks g.jacobian.now g.residuals.now (length g.store.now) (length g.order.now) (length g.bench.now) c.before.before.before.before.before.before.before.before.before.before.before.before.before.before.before.before.before.before.before.before.before.before.before.before.before.before.check-factor.ensures c.before.before.before.before.before.before.before.before.before.before.before.before.before.before.before.before.before.before.before.before.before.before.before.before.before.if1.false c.before.before.before.before.before.before.before.before.before.before.before.before.before.before.before.before.before.before.before.before.before.before.before.before.free-count.ensures).bench_long in
     let k = c.before.before.before.before.before.before.before.before.before.before.before.before.before.before.before.before.factor_filled.auto.1.1.1.1.0 ∙ c.before.before.before.before.before.before.before.before.before.before.before.before.before.before.before.before.before.before.before.before.before.before.fill-bench.auto.1.1.1.1.1.1.0 in
     let i = inside g.m g.n r.inside in
     (i.rows_few, i.cols_few, r.fits, omega arith)
@@ -115,11 +115,11 @@ returns-3 c =
     let t = c.told3.ensures in
     let k = c.before.before.before.before.before.before.before.before.before.before.before.before.before.before.before.before.before.before.before.before.factor_filled.auto.1.1 in
     let r = factorable g.m g.n g.marks g.jacobian.now g.residuals.now (length g.store.now) (length g.order.now) (length g.bench.now) c.before.before.before.before.before.before.before.before.before.before.before.before.before.before.before.before.before.before.before.before.before.before.before.before.before.before.before.before.before.before.check-factor.ensures c.before.before.before.before.before.before.before.before.before.before.before.before.before.before.before.before.before.before.before.before.before.before.before.before.before.before.before.before.before.if1.false c.before.before.before.before.before.before.before.before.before.before.before.before.before.before.before.before.before.before.before.before.before.before.before.before.before.before.before.before.free-count.ensures in
-    let l = (long-enough g.m g.n g.marks g.jacobian.now g.residuals.now (length g.store.now) (length g.order.now) (length g.bench.now) c.before.before.before.before.before.before.before.before.before.before.before.before.before.before.before.before.before.before.before.before.before.before.before.before.before.before.before.before.before.before.check-factor.ensures c.before.before.before.before.before.before.before.before.before.before.before.before.before.before.before.before.before.before.before.before.before.before.before.before.before.before.before.before.before.if1.false c.before.before.before.before.before.before.before.before.before.before.before.before.before.before.before.before.before.before.before.before.before.before.before.before.before.before.before.before.free-count.ensures).order_long in
+    let l = (long_enough g.m g.n g.marks g.jacobian.now g.residuals.now (length g.store.now) (length g.order.now) (length g.bench.now) c.before.before.before.before.before.before.before.before.before.before.before.before.before.before.before.before.before.before.before.before.before.before.before.before.before.before.before.before.before.before.check-factor.ensures c.before.before.before.before.before.before.before.before.before.before.before.before.before.before.before.before.before.before.before.before.before.before.before.before.before.before.before.before.before.if1.false c.before.before.before.before.before.before.before.before.before.before.before.before.before.before.before.before.before.before.before.before.before.before.before.before.before.before.before.before.free-count.ensures).order_long in
     let h = k.1.0 in
     let o = counted_lent g.n c.before.before.before.before.before.before.before.before.before.before.before.before.before.before.before.before.before.before.before.before.before.before.before.before.before.before.before.before.free-count.result c.before.before.before.before.before.before.before.before.before.before.before.before.before.before.before.before.before.before.before.before.factor_filled.new.1.1.1.0 _ r.fits (omega arith) c.before.before.before.before.before.before.before.count-on.ensures in
-    let x = factor-lent g.m g.n g.marks g.jacobian.now g.residuals.now g.store.now g.order.now g.bench.now c.before.before.before.before.before.before.before.before.before.before.before.before.before.before.before.before.before.before.before.before.before.before.before.before.before.before.before.before.before.before.check-factor.ensures c.before.before.before.before.before.before.before.before.before.before.before.before.before.before.before.before.before.before.before.before.before.before.before.before.before.before.before.before.before.if1.false c.before.before.before.before.before.before.before.before.before.before.before.before.before.before.before.before.before.before.before.before.before.before.before.before.before.before.before.before.free-count.ensures c.before.before.before.before.before.before.before.before.before.before.before.before.before.before.before.before.before.before.before.before.before.before.before.before.before.before.fill-bench.ensures c.before.before.before.before.before.before.before.before.before.before.before.before.before.before.before.before.before.before.before.before.factor_filled.ensures in
-    factor-frozen g.m g.n g.marks g.jacobian.now g.residuals.now g.store.now g.order.now g.bench.now c.before.before.before.before.before.before.before.before.before.before.before.before.before.before.before.before.before.before.before.before.before.before.before.before.before.before.before.before.before.before.check-factor.ensures c.before.before.before.before.before.before.before.before.before.before.before.before.before.before.before.before.before.before.before.before.before.before.before.before.before.before.before.before.before.if1.false c.before.before.before.before.before.before.before.before.before.before.before.before.before.before.before.before.before.before.before.before.before.before.before.before.before.before.before.before.free-count.ensures c.before.before.before.before.before.before.before.before.before.before.before.before.before.if2.false t.0 t.1 x k.0 k.1.0 c.before.before.before.before.before.before.before.before.before.before.before.leave-store.ensures o c.before.before.before.clear-rest.ensures
+    let x = factor_lent g.m g.n g.marks g.jacobian.now g.residuals.now g.store.now g.order.now g.bench.now c.before.before.before.before.before.before.before.before.before.before.before.before.before.before.before.before.before.before.before.before.before.before.before.before.before.before.before.before.before.before.check-factor.ensures c.before.before.before.before.before.before.before.before.before.before.before.before.before.before.before.before.before.before.before.before.before.before.before.before.before.before.before.before.before.if1.false c.before.before.before.before.before.before.before.before.before.before.before.before.before.before.before.before.before.before.before.before.before.before.before.before.before.before.before.before.free-count.ensures c.before.before.before.before.before.before.before.before.before.before.before.before.before.before.before.before.before.before.before.before.before.before.before.before.before.before.fill-bench.ensures c.before.before.before.before.before.before.before.before.before.before.before.before.before.before.before.before.before.before.before.before.factor_filled.ensures in
+    factor_frozen g.m g.n g.marks g.jacobian.now g.residuals.now g.store.now g.order.now g.bench.now c.before.before.before.before.before.before.before.before.before.before.before.before.before.before.before.before.before.before.before.before.before.before.before.before.before.before.before.before.before.before.check-factor.ensures c.before.before.before.before.before.before.before.before.before.before.before.before.before.before.before.before.before.before.before.before.before.before.before.before.before.before.before.before.before.if1.false c.before.before.before.before.before.before.before.before.before.before.before.before.before.before.before.before.before.before.before.before.before.before.before.before.before.before.before.before.free-count.ensures c.before.before.before.before.before.before.before.before.before.before.before.before.before.if2.false t.0 t.1 x k.0 k.1.0 c.before.before.before.before.before.before.before.before.before.before.before.leave-store.ensures o c.before.before.before.clear-rest.ensures
 
 pub pivoted-qr-spec : {M : Type 1} → statement M
 pivoted-qr-spec =

@@ -4,7 +4,7 @@ use mathlib.Core.Bool.{not}
 use borrow.Author.Rules.{rules}
 use lib.Ieee.{of_bits}
 use lib.Seq.{length-take-le}
-use Rattle.calls.proofs.Searches.{first-met, diag_long, diag-met, radius-met, lambda-met, above-met, below-met, zero-met, free-met}
+use Rattle.calls.proofs.Searches.{first_met, diag_long, diag_met, radius_met, lambda_met, above_met, below_met, zero_met, free_met}
 use Rattle.calls.proofs.trust_region.check_search.Statement.{statement}
 use Rattle.calls.proofs.trust_region.check_search.Tie as tie
 
@@ -17,7 +17,7 @@ ordered-requires c κs = search rules
 returns : tie.Need-returns
 returns c =
     let g = c.before.before.before.before.before.args in
-    first-met g.st g.store g.order.now g.diag.now g.radius g.lambda g.out c.before.before.least.ensures c.before.ordered.ensures c.if1.true
+    first_met g.st g.store g.order.now g.diag.now g.radius g.lambda g.out c.before.before.least.ensures c.before.ordered.ensures c.if1.true
 
 slice-aggregate-all-finite : tie.Need-slice-aggregate-all-finite
 slice-aggregate-all-finite c =
@@ -31,7 +31,7 @@ returns-2 : tie.Need-returns-2
 returns-2 c =
     let g = c.before.before.before.before.before.before.before.before.args in
     let d = ap not (sym c.before.all-finite.ensures) ∙ c.if2.true in
-    diag-met g.st g.store g.order.now g.diag.now g.radius g.lambda g.out c.before.before.before.before.before.least.ensures c.before.before.before.before.ordered.ensures c.before.before.before.if1.false d
+    diag_met g.st g.store g.order.now g.diag.now g.radius g.lambda g.out c.before.before.before.before.before.least.ensures c.before.before.before.before.ordered.ensures c.before.before.before.if1.false d
 
 is-finite-requires : tie.Need-is-finite-requires
 is-finite-requires c κs = search rules
@@ -41,7 +41,7 @@ returns-3 c =
     let g = c.before.before.before.before.before.before.before.before.before.before.args in
     let d = ap not (sym c.before.before.before.all-finite.ensures) ∙ c.before.before.if2.false in
     let r = ap not (sym c.before.is_finite.ensures) ∙ c.if3.true in
-    radius-met g.st g.store g.order.now g.diag.now g.radius g.lambda g.out c.before.before.before.before.before.before.before.least.ensures c.before.before.before.before.before.before.ordered.ensures c.before.before.before.before.before.if1.false d r
+    radius_met g.st g.store g.order.now g.diag.now g.radius g.lambda g.out c.before.before.before.before.before.before.before.least.ensures c.before.before.before.before.before.before.ordered.ensures c.before.before.before.before.before.if1.false d r
 
 is-finite-requires-2 : tie.Need-is-finite-requires-2
 is-finite-requires-2 c κs = search rules
@@ -52,7 +52,7 @@ returns-4 c =
     let d = ap not (sym c.before.before.before.before.before.all-finite.ensures) ∙ c.before.before.before.before.if2.false in
     let r = ap not (sym c.before.before.before.is_finite.ensures) ∙ c.before.before.if3.false in
     let l = ap not (sym c.before.is-finite2.ensures) ∙ c.if4.true in
-    lambda-met g.st g.store g.order.now g.diag.now g.radius g.lambda g.out c.before.before.before.before.before.before.before.before.before.least.ensures c.before.before.before.before.before.before.before.before.ordered.ensures c.before.before.before.before.before.before.before.if1.false d r l
+    lambda_met g.st g.store g.order.now g.diag.now g.radius g.lambda g.out c.before.before.before.before.before.before.before.before.before.least.ensures c.before.before.before.before.before.before.before.before.ordered.ensures c.before.before.before.before.before.before.before.if1.false d r l
 
 returns-5 : tie.Need-returns-5
 unfolding of_bits
@@ -61,7 +61,7 @@ returns-5 c =
     let d = ap not (sym c.before.before.before.before.before.before.all-finite.ensures) ∙ c.before.before.before.before.before.if2.false in
     let r = ap not (sym c.before.before.before.before.is_finite.ensures) ∙ c.before.before.before.if3.false in
     let l = ap not (sym c.before.before.is-finite2.ensures) ∙ c.before.if4.false in
-    above-met g.st g.store g.order.now g.diag.now g.radius g.lambda g.out c.before.before.before.before.before.before.before.before.before.before.least.ensures c.before.before.before.before.before.before.before.before.before.ordered.ensures c.before.before.before.before.before.before.before.before.if1.false d r l c.if5.true
+    above_met g.st g.store g.order.now g.diag.now g.radius g.lambda g.out c.before.before.before.before.before.before.before.before.before.before.least.ensures c.before.before.before.before.before.before.before.before.before.ordered.ensures c.before.before.before.before.before.before.before.before.if1.false d r l c.if5.true
 
 returns-6 : tie.Need-returns-6
 unfolding of_bits
@@ -70,7 +70,7 @@ returns-6 c =
     let d = ap not (sym c.before.before.before.before.before.before.before.all-finite.ensures) ∙ c.before.before.before.before.before.before.if2.false in
     let r = ap not (sym c.before.before.before.before.before.is_finite.ensures) ∙ c.before.before.before.before.if3.false in
     let l = ap not (sym c.before.before.before.is-finite2.ensures) ∙ c.before.before.if4.false in
-    below-met g.st g.store g.order.now g.diag.now g.radius g.lambda g.out c.before.before.before.before.before.before.before.before.before.before.before.least.ensures c.before.before.before.before.before.before.before.before.before.before.ordered.ensures c.before.before.before.before.before.before.before.before.before.if1.false d r l c.before.if5.false c.if6.true
+    below_met g.st g.store g.order.now g.diag.now g.radius g.lambda g.out c.before.before.before.before.before.before.before.before.before.before.before.least.ensures c.before.before.before.before.before.before.before.before.before.before.ordered.ensures c.before.before.before.before.before.before.before.before.before.if1.false d r l c.before.if5.false c.if6.true
 
 slice-aggregate-none-zero : tie.Need-slice-aggregate-none-zero
 slice-aggregate-none-zero c =
@@ -88,7 +88,7 @@ returns-7 c =
     let r = ap not (sym c.before.before.before.before.before.before.before.before.is_finite.ensures) ∙ c.before.before.before.before.before.before.before.if3.false in
     let l = ap not (sym c.before.before.before.before.before.before.is-finite2.ensures) ∙ c.before.before.before.before.before.if4.false in
     let n = ap not (sym c.before.none-zero.ensures) ∙ c.if7.true in
-    zero-met g.st g.store g.order.now g.diag.now g.radius g.lambda g.out c.before.before.before.before.before.before.before.before.before.before.before.before.before.before.least.ensures c.before.before.before.before.before.before.before.before.before.before.before.before.before.ordered.ensures c.before.before.before.before.before.before.before.before.before.before.before.before.if1.false d r l c.before.before.before.before.if5.false c.before.before.before.if6.false n
+    zero_met g.st g.store g.order.now g.diag.now g.radius g.lambda g.out c.before.before.before.before.before.before.before.before.before.before.before.before.before.before.least.ensures c.before.before.before.before.before.before.before.before.before.before.before.before.before.ordered.ensures c.before.before.before.before.before.before.before.before.before.before.before.before.if1.false d r l c.before.before.before.before.if5.false c.before.before.before.if6.false n
 
 some-free-requires : tie.Need-some-free-requires
 some-free-requires c κs = search rules
@@ -101,7 +101,7 @@ returns-8 c =
     let r = ap not (sym c.before.before.before.before.before.before.before.before.before.is_finite.ensures) ∙ c.before.before.before.before.before.before.before.before.if3.false in
     let l = ap not (sym c.before.before.before.before.before.before.before.is-finite2.ensures) ∙ c.before.before.before.before.before.before.if4.false in
     let n = ap not (sym c.before.before.none-zero.ensures) ∙ c.before.if7.false in
-    free-met g.st g.store g.order.now g.diag.now g.radius g.lambda g.out c.before.before.before.before.before.before.before.before.before.before.before.before.before.before.before.least.ensures c.before.before.before.before.before.before.before.before.before.before.before.before.before.before.ordered.ensures c.before.before.before.before.before.before.before.before.before.before.before.before.before.if1.false d r l c.before.before.before.before.before.if5.false c.before.before.before.before.if6.false n c.some-free.ensures
+    free_met g.st g.store g.order.now g.diag.now g.radius g.lambda g.out c.before.before.before.before.before.before.before.before.before.before.before.before.before.before.before.least.ensures c.before.before.before.before.before.before.before.before.before.before.before.before.before.before.ordered.ensures c.before.before.before.before.before.before.before.before.before.before.before.before.before.if1.false d r l c.before.before.before.before.before.if5.false c.before.before.before.before.if6.false n c.some-free.ensures
 
 pub check-search-spec : {M : Type 1} → statement M
 check-search-spec =

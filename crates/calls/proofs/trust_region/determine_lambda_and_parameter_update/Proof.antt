@@ -5,7 +5,7 @@ use lib.ListN.{drop}
 use Rattle.factor.specs.Outcome.{Ended}
 use Rattle.factor.specs.declared.state.State.{State as Plain}
 use Rattle.search.specs.Search.{Flagged, search_call}
-use Rattle.calls.proofs.Backs.{ended-unmarked, ready-reducible, free-few, first-long, small-fits, small-long, step_fits, step_long, gathered}
+use Rattle.calls.proofs.Backs.{ended-unmarked, ready_reducible, free_few, first_long, small_fits, small_long, step_fits, step_long, gathered}
 use Rattle.calls.proofs.Searches.{front_fits, front_long, search-unmarked, search-refused, search-lent, search-worked}
 use Rattle.calls.proofs.trust_region.determine_lambda_and_parameter_update.Statement.{statement}
 use Rattle.calls.proofs.trust_region.determine_lambda_and_parameter_update.Tie as tie
@@ -13,9 +13,9 @@ use Rattle.calls.proofs.trust_region.determine_lambda_and_parameter_update.Tie a
 whole-requires : tie.Need-whole-requires
 whole-requires c κs = search rules
 
-determine-lambda-and-parameter-update-requires :
+determine_lambda_and_parameter_update_requires :
     tie.Need-determine-lambda-and-parameter-update-requires
-determine-lambda-and-parameter-update-requires c κs = search rules
+determine_lambda_and_parameter_update_requires c κs = search rules
 
 marked-requires : tie.Need-marked-requires
 marked-requires c κs = search rules
@@ -48,7 +48,7 @@ store-need-requires : tie.Need-store-need-requires
 store-need-requires c κs =
     let g = c.before.before.before.before.before.before.before.before.args in
     let l = search-lent g.st g.order.now g.diag.now g.radius g.lambda g.store.now g.out.now c.before.before.check-search.ensures c.before.if2.false c.free-count.ensures in
-    free-few g.st g.store.now _ l.ready l.counted
+    free_few g.st g.store.now _ l.ready l.counted
 
 room320-requires : tie.Need-room320-requires
 room320-requires c κs = search rules
@@ -81,7 +81,7 @@ slice-aggregate-search-frozen : tie.Need-slice-aggregate-search-frozen
 slice-aggregate-search-frozen c =
     let g = c.before.before.before.before.before.before.before.before.before.before.before.before.before.before.before.before.before.args in
     let l = search-lent g.st g.order.now g.diag.now g.radius g.lambda g.store.now g.out.now c.before.before.before.before.before.before.before.before.before.before.before.check-search.ensures c.before.before.before.before.before.before.before.before.before.before.if2.false c.before.before.before.before.before.before.before.before.before.free-count.ensures in
-    sym (first-long g.st g.store.now _ l.ready l.counted g.order.now l.order_fits)
+    sym (first_long g.st g.store.now _ l.ready l.counted g.order.now l.order_fits)
 
 array-share-prefix-ds : tie.Need-array-share-prefix-ds
 array-share-prefix-ds c =
@@ -101,13 +101,13 @@ array-borrow-prefix-small : tie.Need-array-borrow-prefix-small
 array-borrow-prefix-small c =
     let g = c.before.before.before.before.before.before.before.before.before.before.before.before.before.before.before.before.before.before.args in
     let l = search-lent g.st g.order.now g.diag.now g.radius g.lambda g.store.now g.out.now c.before.before.before.before.before.before.before.before.before.before.before.before.check-search.ensures c.before.before.before.before.before.before.before.before.before.before.before.if2.false c.before.before.before.before.before.before.before.before.before.before.free-count.ensures in
-    small-fits g.st g.store.now _ l.ready l.counted _ c.before.before.before.before.before.before.before.before.before.store-need.ensures c.before.before.before.before.before.before.before.before.room320.ensures
+    small_fits g.st g.store.now _ l.ready l.counted _ c.before.before.before.before.before.before.before.before.before.store-need.ensures c.before.before.before.before.before.before.before.before.room320.ensures
 
 slice-aggregate-search-frozen-3 : tie.Need-slice-aggregate-search-frozen-3
 slice-aggregate-search-frozen-3 c =
     let g = c.before.before.before.before.before.before.before.before.before.before.before.before.before.before.before.before.before.before.before.args in
     let l = search-lent g.st g.order.now g.diag.now g.radius g.lambda g.store.now g.out.now c.before.before.before.before.before.before.before.before.before.before.before.before.before.check-search.ensures c.before.before.before.before.before.before.before.before.before.before.before.before.if2.false c.before.before.before.before.before.before.before.before.before.before.before.free-count.ensures in
-    sym (small-long g.st g.store.now _ l.ready l.counted _ c.before.before.before.before.before.before.before.before.before.before.store-need.ensures c.before.before.before.before.before.before.before.before.before.room320.ensures)
+    sym (small_long g.st g.store.now _ l.ready l.counted _ c.before.before.before.before.before.before.before.before.before.before.store-need.ensures c.before.before.before.before.before.before.before.before.before.room320.ensures)
 
 array-borrow-prefix-x : tie.Need-array-borrow-prefix-x
 array-borrow-prefix-x c =
@@ -126,8 +126,8 @@ search-frozen-requires c κs =
     let g = c.before.before.before.before.before.before.before.before.before.before.before.before.before.before.before.before.before.before.before.before.before.args in
     let l = search-lent g.st g.order.now g.diag.now g.radius g.lambda g.store.now g.out.now c.before.before.before.before.before.before.before.before.before.before.before.before.before.before.before.check-search.ensures c.before.before.before.before.before.before.before.before.before.before.before.before.before.before.if2.false c.before.before.before.before.before.before.before.before.before.before.before.before.before.free-count.ensures in
     let need = c.before.before.before.before.before.before.before.before.before.before.before.before.store-need.ensures in
-    let small = small-long g.st g.store.now _ l.ready l.counted _ need c.before.before.before.before.before.before.before.before.before.before.before.room320.ensures ∙ need in
-    (ready-reducible g.st g.store.now _ l.ready l.counted, (small, step_long g.st g.store.now _ l.ready l.counted _ c.before.before.before.before.before.before.before.before.before.room162.ensures, l.out_fits))
+    let small = small_long g.st g.store.now _ l.ready l.counted _ need c.before.before.before.before.before.before.before.before.before.before.before.room320.ensures ∙ need in
+    (ready_reducible g.st g.store.now _ l.ready l.counted, (small, step_long g.st g.store.now _ l.ready l.counted _ c.before.before.before.before.before.before.before.before.before.room162.ensures, l.out_fits))
 
 same-length-3 : tie.Need-same-length-3
 same-length-3 c = search rules
@@ -148,7 +148,7 @@ determine-lambda-and-parameter-update-spec =
     tie.close
     (tie.spec
     whole-requires
-    determine-lambda-and-parameter-update-requires
+    determine_lambda_and_parameter_update_requires
     marked-requires
     same_length
     same-length-2

@@ -18,9 +18,9 @@ narrow-in-requires c κs = search rules
 reduced-requires : tie.Need-reduced-requires
 reduced-requires c κs = search rules
 
-determine-lambda-and-parameter-update-requires :
+determine_lambda_and_parameter_update_requires :
     tie.Need-determine-lambda-and-parameter-update-requires
-determine-lambda-and-parameter-update-requires c κs = search rules
+determine_lambda_and_parameter_update_requires c κs = search rules
 
 empty-in-requires : tie.Need-empty-in-requires
 empty-in-requires c κs = search rules
@@ -94,7 +94,7 @@ search-frozen-spec =
     (tie.spec
     narrow-in-requires
     reduced-requires
-    determine-lambda-and-parameter-update-requires
+    determine_lambda_and_parameter_update_requires
     empty-in-requires
     with-held-requires
     enum-known-answer

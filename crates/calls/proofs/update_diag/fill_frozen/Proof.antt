@@ -3,7 +3,7 @@ use mathlib.Core.Path.{sym}
 use borrow.Author.Rules.{rules}
 use lib.Seq.{length-take-le}
 use lib.Ieee.{of_bits}
-use Rattle.calls.proofs.Rescaled.{entries-filled, first-kept, scaled-kept, unscaled-kept}
+use Rattle.calls.proofs.Rescaled.{entries_filled, first_kept, scaled-kept, unscaled_kept}
 use Rattle.calls.proofs.update_diag.fill_frozen.Statement.{statement}
 use Rattle.calls.proofs.update_diag.fill_frozen.Tie as tie
 
@@ -35,16 +35,16 @@ returns : tie.Need-returns
 unfolding of_bits
 returns c =
     let g = c.before.before.before.before.before.before.before in
-    entries-filled g.args.n g.args.diag.now _ c.before.before.before.before.enum_told.given.1 g.requires c.before.before.fill.ensures
+    entries_filled g.args.n g.args.diag.now _ c.before.before.before.before.enum_told.given.1 g.requires c.before.before.fill.ensures
 
 returns-2 : tie.Need-returns-2
-returns-2 c = let g = c.before.before.before.args in first-kept g.n g.diag.now c.enum-told2.given.1
+returns-2 c = let g = c.before.before.before.args in first_kept g.n g.diag.now c.enum-told2.given.1
 
 returns-3 : tie.Need-returns-3
 returns-3 c = let g = c.before.before.before.args in scaled-kept g.n g.diag.now c.enum-told3.given.1
 
 returns-4 : tie.Need-returns-4
-returns-4 c = let g = c.before.before.before.args in unscaled-kept g.n g.diag.now c.enum-told4.given.1
+returns-4 c = let g = c.before.before.before.args in unscaled_kept g.n g.diag.now c.enum-told4.given.1
 
 pub fill-frozen-spec : {M : Type 1} → statement M
 fill-frozen-spec =

@@ -7,7 +7,7 @@ use Rattle.factor.specs.declared.state.State.{State as Plain}
 use Rattle.measures.specs.Answers.{scaling_of}
 use Rattle.measures.specs.Rescale.{scaling_call}
 use Rattle.measures.specs.declared.scaling.Scaling.{Scaling}
-use Rattle.calls.proofs.Rescaled.{scaled-back}
+use Rattle.calls.proofs.Rescaled.{scaled_back}
 use Rattle.calls.proofs.update_diag.scaling_frozen.Statement.{statement}
 use Rattle.calls.proofs.update_diag.scaling_frozen.Tie as tie
 
@@ -53,7 +53,7 @@ same-length-4 c = c.before.before.scale-into.auto.1.1.1.1.0
 returns : tie.Need-returns
 returns c =
     let g = c.before.before.before.before.before.before.before.before.before.before.before.before.before.before.before.before.before.before.before.before.before.before.before.before.before.before.before.before.before.before.args in
-    scaled-back g.st g.mode g.diag.now g.store.now (λ (p : Plain) (s : List Float). scaling_call p g.mode g.d.now g.xs.now g.bound s)
+    scaled_back g.st g.mode g.diag.now g.store.now (λ (p : Plain) (s : List Float). scaling_call p g.mode g.d.now g.xs.now g.bound s)
     c.before.before.before.before.before.before.before.before.before.before.before.before.before.before.before.before.before.before.before.before.before.before.before.before.before.before.before.before.before.before.requires.0.counted c.before.before.before.before.before.before.before.before.before.before.before.before.before.before.before.before.before.before.before.before.before.before.narrow-in.ensures c.before.before.before.before.before.before.before.before.before.before.before.before.before.before.before.before.before.before.before.reduced.ensures c.before.before.before.before.before.before.before.before.before.before.before.before.before.before.before.before.update-diag.ensures
     (ap (λ (a : Scaling). scaling_of a) c.before.before.before.before.before.before.answer.given.1) c.before.before.before.before.before.before.before.before.before.before.rest_in.ensures c.before.before.scale-into.ensures
 
@@ -72,7 +72,7 @@ same-length-8 c = c.before.before.scale-into2.auto.1.1.1.1.0
 returns-2 : tie.Need-returns-2
 returns-2 c =
     let g = c.before.before.before.before.before.before.before.before.before.before.before.before.before.before.before.before.before.before.before.before.before.before.before.before.before.before.before.before.before.before.args in
-    scaled-back g.st g.mode g.diag.now g.store.now (λ (p : Plain) (s : List Float). scaling_call p g.mode g.d.now g.xs.now g.bound s)
+    scaled_back g.st g.mode g.diag.now g.store.now (λ (p : Plain) (s : List Float). scaling_call p g.mode g.d.now g.xs.now g.bound s)
     c.before.before.before.before.before.before.before.before.before.before.before.before.before.before.before.before.before.before.before.before.before.before.before.before.before.before.before.before.before.before.requires.0.counted c.before.before.before.before.before.before.before.before.before.before.before.before.before.before.before.before.before.before.before.before.before.before.narrow-in.ensures c.before.before.before.before.before.before.before.before.before.before.before.before.before.before.before.before.before.before.before.reduced.ensures c.before.before.before.before.before.before.before.before.before.before.before.before.before.before.before.before.update-diag.ensures
     (ap (λ (a : Scaling). scaling_of a) c.before.before.before.before.before.before.answer2.given.1) c.before.before.before.before.before.before.before.before.before.before.rest_in.ensures c.before.before.scale-into2.ensures
 
@@ -88,7 +88,7 @@ same-length-11 c = c.before.before.before.before.before.before.before.before.bef
 returns-3 : tie.Need-returns-3
 returns-3 c =
     let g = c.before.before.before.before.before.before.before.before.before.before.before.before.before.before.before.before.before.before.before.before.before.before.before.before.before.args in
-    scaled-back g.st g.mode g.diag.now g.store.now (λ (p : Plain) (s : List Float). scaling_call p g.mode g.d.now g.xs.now g.bound s)
+    scaled_back g.st g.mode g.diag.now g.store.now (λ (p : Plain) (s : List Float). scaling_call p g.mode g.d.now g.xs.now g.bound s)
     c.before.before.before.before.before.before.before.before.before.before.before.before.before.before.before.before.before.before.before.before.before.before.before.before.before.requires.0.counted c.before.before.before.before.before.before.before.before.before.before.before.before.before.before.before.before.before.narrow-in.ensures c.before.before.before.before.before.before.before.before.before.before.before.before.before.before.reduced.ensures c.before.before.before.before.before.before.before.before.before.before.before.update-diag.ensures
     (ap (λ (a : Scaling). scaling_of a) c.before.answer3.given.1) c.before.before.before.before.before.rest_in.ensures refl
 

@@ -8,8 +8,8 @@ use mathlib.Core.List.{List}
 use lib.Ieee.{Float}
 use Rattle.leaves.specs.inner.Squares.{Square}
 use Rattle.leaves.proofs.Triangles.{column_fits}
-use Rattle.leaves.proofs.Squares.{column-end}
-use Rattle.calls.proofs.Widens.{column-widened}
+use Rattle.leaves.proofs.Squares.{column_end}
+use Rattle.calls.proofs.Widens.{column_widened}
 use Rattle.calls.proofs.widen.widen_column.Statement.{statement}
 use Rattle.calls.proofs.widen.widen_column.Tie as tie
 
@@ -69,7 +69,7 @@ part-held-into-start : tie.Need-slice-bounds-held-into-start
 part-held-into-start c = search rules
 
 part-held-into-end : tie.Need-slice-bounds-held-into-end
-part-held-into-end c = column-end c.before.before.args.free c.before.before.args.small.now c.before.before.requires.1.0 c.before.before.args.k c.before.before.requires.1.1.0
+part-held-into-end c = column_end c.before.before.args.free c.before.before.args.small.now c.before.before.requires.1.0 c.before.before.args.k c.before.before.requires.1.1.0
 
 mul-held-into-2 : tie.Need-overflow-mul-held-into-2
 mul-held-into-2 c = omega (arith, lent_inside c.before.before.before)
@@ -81,7 +81,7 @@ part-held-into-start-2 : tie.Need-slice-bounds-held-into-start-2
 part-held-into-start-2 c = search rules
 
 part-held-into-end-2 : tie.Need-slice-bounds-held-into-end-2
-part-held-into-end-2 c = let g = c.before.before.before in let h = g.requires.1.1 in column-end g.args.n g.args.square.now g.requires.0 g.args.k (omega arith)
+part-held-into-end-2 c = let g = c.before.before.before in let h = g.requires.1.1 in column_end g.args.n g.args.square.now g.requires.0 g.args.k (omega arith)
 
 held-into-requires : tie.Need-held-into-requires
 held-into-requires c κs = search rules
@@ -93,7 +93,7 @@ returns : tie.Need-returns
 returns c =
     let g = c.before.before.before.before.before.before.before.args in
     let p = c.before.before.before.before.before.before.before.requires in
-    column-widened g.n g.free g.k g.small.now g.square.now p.0 p.1.0 p.1.1.0 p.1.1.1 _ _ _ _ _ (omega arith) refl (omega arith) refl c.before.before.held-into.ensures
+    column_widened g.n g.free g.k g.small.now g.square.now p.0 p.1.0 p.1.1.0 p.1.1.1 _ _ _ _ _ (omega arith) refl (omega arith) refl c.before.before.held-into.ensures
 
 pub widen-column-spec : {M : Type 1} → statement M
 widen-column-spec =

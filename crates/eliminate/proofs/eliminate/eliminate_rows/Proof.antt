@@ -6,7 +6,7 @@ use lib.ListN.{length, length-set}
 use Rattle.eliminate.specs.Eliminate.{eliminated}
 use Rattle.eliminate.specs.inner.Edges.{edges_of}
 use Rattle.eliminate.proofs.Triangular.{heads-length, edges_of-length}
-use Rattle.eliminate.proofs.Settling.{Settling, settle_none, settle-turn, settle_done}
+use Rattle.eliminate.proofs.Settling.{Settling, settle_none, settle_turn, settle_done}
 use Rattle.eliminate.proofs.eliminate.eliminate_rows.Statement.{statement}
 use Rattle.eliminate.proofs.eliminate.eliminate_rows.Tie as tie
 
@@ -66,7 +66,7 @@ loop-again c =
       k,
       simp length-set l.invariant.3,
       l.invariant.4,
-      settle-turn g.n l.j g.ds.now g.square.now l.square a.new.0 z.new.0 l.rhs a.new.1.1.1.1.0 l.ldiag _ z.result h p.1.0 l.invariant.2 k l.invariant.3
+      settle_turn g.n l.j g.ds.now g.square.now l.square a.new.0 z.new.0 l.rhs a.new.1.1.1.1.0 l.ldiag _ z.result h p.1.0 l.invariant.2 k l.invariant.3
           (rw p.1.1.1.1) l.invariant.5 a.ensures z.ensures,
     )
 

@@ -6,7 +6,7 @@ use borrow.Author.Rules.{rules}
 use lib.ListN.{get_or}
 use mathlib.Core.List.{[]}
 use Rattle.eliminate.specs.inner.Edges.{edges_of}
-use Rattle.eliminate.proofs.Triangular.{edge-cell, edge-long, cell-rows, cell-above, set_first}
+use Rattle.eliminate.proofs.Triangular.{edge_cell, edge_long, cell_rows, cell-above, set_first}
 use Rattle.eliminate.proofs.eliminate.end_row.Statement.{statement}
 use Rattle.eliminate.proofs.eliminate.end_row.Tie as tie
 
@@ -35,10 +35,10 @@ returns c =
     let q = c.before.before.before.requires.0 in
     let h = c.before.before.before.requires.1 in
     let e : g.j - g.j ≡ 0 = omega arith in
-    let l = edge-long g.n s q g.j h in
+    let l = edge_long g.n s q g.j h in
     rw c.before.cell_at.ensures.0 (record {
-      first = sym (rw e at (edge-cell g.n s q g.j h g.j (omega arith) h));
-      rows = cell-rows g.n s q g.j h g.j (omega arith) h g.v ∙ rw (e, set_first (get_or (edges_of g.n s) g.j []) g.v (omega arith));
+      first = sym (rw e at (edge_cell g.n s q g.j h g.j (omega arith) h));
+      rows = cell_rows g.n s q g.j h g.j (omega arith) h g.v ∙ rw (e, set_first (get_or (edges_of g.n s) g.j []) g.v (omega arith));
       above = cell-above g.n s q g.j h g.j (omega arith) h g.v;
     })
 

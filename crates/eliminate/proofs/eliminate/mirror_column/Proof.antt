@@ -3,7 +3,7 @@ use Prim.Native.Nat.{◌-◌, ◌≤◌, ◌<◌}
 use mathlib.Core.Path.{◌≡◌, refl, ◌∙◌}
 use borrow.Author.Rules.{rules}
 use lib.ListN.{length, length-set}
-use Rattle.eliminate.proofs.eliminate.Mirroring.{Mirroring, column-start, column-turn, column-done}
+use Rattle.eliminate.proofs.eliminate.Mirroring.{Mirroring, column_start, column_turn, column_done}
 use Rattle.eliminate.proofs.eliminate.mirror_column.Statement.{statement}
 use Rattle.eliminate.proofs.eliminate.mirror_column.Tie as tie
 
@@ -17,7 +17,7 @@ add-i : tie.Need-overflow-add-i invariant-loop decreases-loop
 add-i c = search rules
 
 loop_holds : tie.Need-loop-init invariant-loop decreases-loop
-loop_holds c = (search rules, search rules, refl, column-start _ _ c.before.requires.0 _ c.before.requires.1)
+loop_holds c = (search rules, search rules, refl, column_start _ _ c.before.requires.0 _ c.before.requires.1)
 
 cell-at-requires : tie.Need-cell-at-requires invariant-loop decreases-loop
 cell-at-requires c κs = search rules
@@ -53,7 +53,7 @@ loop-again c =
       search rules,
       simp length-set l.invariant.2,
       rw (c.before.cell-at2.ensures.0, c.before.before.cell_at.ensures.0)
-          (column-turn g.n g.square.now p.0 g.k p.1 l.square l.i (record { small = p.0.small; whole = l.invariant.2 ∙ p.0.whole }) l.invariant.0 h l.invariant.3),
+          (column_turn g.n g.square.now p.0 g.k p.1 l.square l.i (record { small = p.0.small; whole = l.invariant.2 ∙ p.0.whole }) l.invariant.0 h l.invariant.3),
     )
 
 same_length : tie.Need-same-length invariant-loop decreases-loop
@@ -64,7 +64,7 @@ returns c =
     let l = c.before.loop in
     let g = c.before.before.before.args in
     let p = c.before.before.before.requires in
-    column-done g.n g.square.now p.0 g.k p.1 l.square l.i c.loop-test.false l.invariant.3
+    column_done g.n g.square.now p.0 g.k p.1 l.square l.i c.loop-test.false l.invariant.3
 
 pub mirror-column-spec : {M : Type 1} → statement M
 mirror-column-spec =

@@ -1,7 +1,7 @@
 -- `eliminate::eliminate::rotate_place` meets its contract. Assumes nothing.
 use borrow.Author.Rules.{rules}
 use lib.Ieee.{of_bits}
-use Rattle.eliminate.proofs.eliminate.Placing.{place-skipped, place-turned}
+use Rattle.eliminate.proofs.eliminate.Placing.{place_skipped, place_turned}
 use Rattle.eliminate.proofs.eliminate.rotate_place.Statement.{statement}
 use Rattle.eliminate.proofs.eliminate.rotate_place.Tie as tie
 
@@ -16,7 +16,7 @@ unfolding of_bits
 returns c =
     let g = c.before.before.before.before.before.args in
     let p = c.before.before.before.before.before.requires in
-    place-skipped g.n g.k g.square.now g.rhs.now g.l.now g.q p.0 p.1.0 p.1.1.0 p.1.1.1 c.if1.true
+    place_skipped g.n g.k g.square.now g.rhs.now g.l.now g.q p.0 p.1.0 p.1.1.0 p.1.1.1 c.if1.true
 
 mul-b : tie.Need-overflow-mul-b
 mul-b c = search rules
@@ -81,7 +81,7 @@ returns-2 c =
     let g = c.before.before.before.before.before.before.before.before.before.before.before.before.before.before.args in
     let p = c.before.before.before.before.before.before.before.before.before.before.before.before.before.before.requires in
     let t = c.before.before.before.before.turn-place in
-    place-turned g.n g.k g.square.now g.rhs.now g.l.now g.q p.0 p.1.0 p.1.1.0 p.1.1.1 t.result t.new.0 t.new.1.0 c.before.before.before.before.before.before.before.before.before.if1.false _ c.before.before.before.before.before.before.before.cell_at.ensures.0 t.ensures
+    place_turned g.n g.k g.square.now g.rhs.now g.l.now g.q p.0 p.1.0 p.1.1.0 p.1.1.1 t.result t.new.0 t.new.1.0 c.before.before.before.before.before.before.before.before.before.if1.false _ c.before.before.before.before.before.before.before.cell_at.ensures.0 t.ensures
 
 pub rotate-place-spec : {M : Type 1} → statement M
 rotate-place-spec =

@@ -2,7 +2,7 @@
 use mathlib.Core.Path.{◌∙◌}
 use borrow.Author.Rules.{rules}
 use lib.ListN.{length}
-use Rattle.eliminate.proofs.Lent.{fitting, diag-refused, diag-worked}
+use Rattle.eliminate.proofs.Lent.{fitting, diag_refused, diag_worked}
 use Rattle.eliminate.proofs.square.eliminate_diag.Statement.{statement}
 use Rattle.eliminate.proofs.square.eliminate_diag.Tie as tie
 
@@ -12,7 +12,7 @@ check-requires c κs = search rules
 returns : tie.Need-returns
 returns c =
     let g = c.before.before.before.before.before.before.args in
-    diag-refused g.n g.ds.now g.square.now g.rhs.now g.ldiag.now _ c.before.check.ensures c.if1.true
+    diag_refused g.n g.ds.now g.square.now g.rhs.now g.ldiag.now _ c.before.check.ensures c.if1.true
 
 eliminate-requires : tie.Need-eliminate-requires
 eliminate-requires c κs =
@@ -36,7 +36,7 @@ returns-2 c =
     let z = c.before.before.before.before.before.before.before.before.before.before.before.if1.false in
     let e = c.before.before.before.before.before.before.eliminate in
     let f = fitting g.n (length g.square.now) (length g.ds.now) (length g.rhs.now) (length g.ldiag.now) k z in
-    diag-worked g.n g.ds.now g.square.now g.rhs.now g.ldiag.now _ e.new.0 e.new.1.1.1.0 e.new.1.1.1.1.0
+    diag_worked g.n g.ds.now g.square.now g.rhs.now g.ldiag.now _ e.new.0 e.new.1.1.1.0 e.new.1.1.1.1.0
     k z (e.auto.0 ∙ f.cells) e.ensures
 
 eliminate-requires-2 : tie.Need-eliminate-requires-2
@@ -61,7 +61,7 @@ returns-3 c =
     let z = c.before.before.before.before.before.before.before.before.before.before.before.if1.false in
     let e = c.before.before.before.before.before.before.eliminate2 in
     let f = fitting g.n (length g.square.now) (length g.ds.now) (length g.rhs.now) (length g.ldiag.now) k z in
-    diag-worked g.n g.ds.now g.square.now g.rhs.now g.ldiag.now _ e.new.0 e.new.1.1.1.0 e.new.1.1.1.1.0
+    diag_worked g.n g.ds.now g.square.now g.rhs.now g.ldiag.now _ e.new.0 e.new.1.1.1.0 e.new.1.1.1.1.0
     k z (e.auto.0 ∙ f.cells) e.ensures
 
 pub eliminate-diag-spec : {M : Type 1} → statement M

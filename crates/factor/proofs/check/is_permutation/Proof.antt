@@ -5,7 +5,7 @@ use native.Mathlib.Omega.{arith}
 use borrow.Author.Rules.{rules}
 use lib.ListN.{length, take, length-set}
 use Rattle.factor.specs.Tests.{distinct_below}
-use Rattle.factor.proofs.check.Entries.{to_meet, order-start, order-high, order-twice, order-turn, order-end}
+use Rattle.factor.proofs.check.Entries.{to_meet, order-start, order_high, order_twice, order_turn, order-end}
 use Rattle.factor.proofs.check.is_permutation.Statement.{statement}
 use Rattle.factor.proofs.check.is_permutation.Tie as tie
 
@@ -33,7 +33,7 @@ returns : tie.Need-returns invariant-loop decreases-loop
 returns c =
     let l = c.before.before.before.loop in
     let s = c.before.before.before.before.before.before in
-    sym (order-high s.args.order.now s.args.n l.k l.met c.before.before.loop-test.true s.requires.1 c.if1.true) ∙ l.invariant.1
+    sym (order_high s.args.order.now s.args.n l.k l.met c.before.before.loop-test.true s.requires.1 c.if1.true) ∙ l.invariant.1
 
 array-read-if2 : tie.Need-array-read-if2 invariant-loop decreases-loop
 array-read-if2 c = search rules
@@ -42,7 +42,7 @@ returns-2 : tie.Need-returns-2 invariant-loop decreases-loop
 returns-2 c =
     let l = c.before.before.before.before.loop in
     let s = c.before.before.before.before.before.before.before in
-    sym (order-twice s.args.order.now s.args.n l.k l.met c.before.before.before.loop-test.true s.requires.1 c.if2.true) ∙ l.invariant.1
+    sym (order_twice s.args.order.now s.args.n l.k l.met c.before.before.before.loop-test.true s.requires.1 c.if2.true) ∙ l.invariant.1
 
 array-write-met : tie.Need-array-write-met invariant-loop decreases-loop
 array-write-met c = search rules
@@ -60,7 +60,7 @@ loop-again c =
     let b = c.before.if1.false in
     let r = s.requires.0 in
     let q = l.invariant.0 in
-    (simp length-set q, order-turn s.args.order.now s.args.n l.k l.met c.before.before.before.loop-test.true s.requires.1 b (omega arith) c.if2.false ∙ l.invariant.1)
+    (simp length-set q, order_turn s.args.order.now s.args.n l.k l.met c.before.before.before.loop-test.true s.requires.1 b (omega arith) c.if2.false ∙ l.invariant.1)
 
 returns-3 : tie.Need-returns-3 invariant-loop decreases-loop
 returns-3 c =

@@ -4,7 +4,7 @@ use borrow.Author.Rules.{rules}
 use mathlib.Core.List.{[], ◌∷◌}
 use Rattle.factor.specs.Tests.{room_tests, held_test}
 use Rattle.leaves.proofs.Refusals.{stopped}
-use Rattle.factor.proofs.Holds.{further-met, further-passed}
+use Rattle.factor.proofs.Holds.{further_met, further_passed}
 use Rattle.factor.proofs.cholesky.check_mul.Statement.{statement}
 use Rattle.factor.proofs.cholesky.check_mul.Tie as tie
 
@@ -24,13 +24,13 @@ returns-2 : tie.Need-returns-2
 returns-2 c =
     let g = c.before.before.before.before.args in
     let ts = room_tests g.st g.store g.out in
-    further-met ts (held_test g.st) refl c.before.before.before.room.ensures c.before.before.if1.false (sym c.before.is-nothing.ensures ∙ c.if2.true)
+    further_met ts (held_test g.st) refl c.before.before.before.room.ensures c.before.before.if1.false (sym c.before.is-nothing.ensures ∙ c.if2.true)
 
 returns-3 : tie.Need-returns-3
 returns-3 c =
     let g = c.before.before.before.before.args in
     let ts = room_tests g.st g.store g.out in
-    further-passed ts (held_test g.st) refl c.before.before.before.room.ensures c.before.before.if1.false (sym c.before.is-nothing.ensures ∙ c.if2.false)
+    further_passed ts (held_test g.st) refl c.before.before.before.room.ensures c.before.before.if1.false (sym c.before.is-nothing.ensures ∙ c.if2.false)
 
 pub check-mul-spec : {M : Type 1} → statement M
 check-mul-spec =

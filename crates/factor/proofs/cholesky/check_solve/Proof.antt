@@ -8,7 +8,7 @@ use lib.ListN.{length}
 use lib.Seq.{length-take-le}
 use Rattle.factor.specs.Tests.{held_test, finite_test, solve_tests}
 use Rattle.leaves.proofs.Refusals.{stopped}
-use Rattle.factor.proofs.Holds.{further-met, further-passed, rhs_fits}
+use Rattle.factor.proofs.Holds.{further_met, further_passed, rhs_fits}
 use Rattle.factor.proofs.cholesky.check_solve.Statement.{statement}
 use Rattle.factor.proofs.cholesky.check_solve.Tie as tie
 
@@ -33,13 +33,13 @@ returns-2 : tie.Need-returns-2
 returns-2 c =
     let g = c.before.before.before.before.before.before.before.args in
     let ts = solve_tests g.st g.store g.order.now (min (length g.rhs.now) g.out) ++ (held_test g.st ∷ []) in
-    further-passed ts (finite_test g.st g.rhs.now) refl c.before.before.before.before.check-held.ensures c.before.before.before.if1.false (ap not (sym c.before.all-finite.ensures ∙ c.if2.true))
+    further_passed ts (finite_test g.st g.rhs.now) refl c.before.before.before.before.check-held.ensures c.before.before.before.if1.false (ap not (sym c.before.all-finite.ensures ∙ c.if2.true))
 
 returns-3 : tie.Need-returns-3
 returns-3 c =
     let g = c.before.before.before.before.before.before.before.args in
     let ts = solve_tests g.st g.store g.order.now (min (length g.rhs.now) g.out) ++ (held_test g.st ∷ []) in
-    further-met ts (finite_test g.st g.rhs.now) refl c.before.before.before.before.check-held.ensures c.before.before.before.if1.false (ap not (sym c.before.all-finite.ensures ∙ c.if2.false))
+    further_met ts (finite_test g.st g.rhs.now) refl c.before.before.before.before.check-held.ensures c.before.before.before.if1.false (ap not (sym c.before.all-finite.ensures ∙ c.if2.false))
 
 pub check-solve-spec : {M : Type 1} → statement M
 check-solve-spec =

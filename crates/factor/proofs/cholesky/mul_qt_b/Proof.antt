@@ -2,7 +2,7 @@
 use mathlib.Core.Path.{sym, ◌∙◌}
 use borrow.Author.Rules.{rules}
 use Rattle.leaves.proofs.Overs.{lent_fits, lent_long}
-use Rattle.factor.proofs.Holds.{mul_ready, mul-refused, mul-answered, mul-refused-8}
+use Rattle.factor.proofs.Holds.{mul_ready, mul-refused, mul-answered, mul-refused_8}
 use Rattle.factor.proofs.cholesky.mul_qt_b.Statement.{statement}
 use Rattle.factor.proofs.cholesky.mul_qt_b.Tie as tie
 
@@ -63,7 +63,7 @@ returns-3 : tie.Need-returns-3
 returns-3 c =
     let g = c.before.before.before.before.before.before.before.before.before.before.before.before.before.before.before.before.before.args in
     let e = c.before.before.before.before.before.before.before.before.mul-into.ensures in
-    mul-refused-8 g.st g.store.now g.out.now _ c.before.before.before.before.before.before.before.before.before.before.before.before.before.before.check-mul.ensures c.before.before.before.before.before.before.before.before.before.before.before.before.before.if1.false (sym c.if2.false ∙ e.0) c.before.before.before.rest-room.ensures (e.1.1 c.if2.false)
+    mul-refused_8 g.st g.store.now g.out.now _ c.before.before.before.before.before.before.before.before.before.before.before.before.before.before.check-mul.ensures c.before.before.before.before.before.before.before.before.before.before.before.before.before.if1.false (sym c.if2.false ∙ e.0) c.before.before.before.rest-room.ensures (e.1.1 c.if2.false)
 
 pub mul-qt-b-spec : {M : Type 1} → statement M
 mul-qt-b-spec =

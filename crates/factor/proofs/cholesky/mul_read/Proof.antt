@@ -3,7 +3,7 @@ use mathlib.Core.Path.{refl, sym, ap, ◌∙◌}
 use borrow.Author.Rules.{rules}
 use Rattle.leaves.proofs.Overs.{lent_fits, lent_long}
 use Rattle.factor.specs.Outcome.{read_of}
-use Rattle.factor.proofs.Holds.{mul_ready, mul-refused, mul-answered, mul-refused-8}
+use Rattle.factor.proofs.Holds.{mul_ready, mul-refused, mul-answered, mul-refused_8}
 use Rattle.factor.proofs.cholesky.mul_read.Statement.{statement}
 use Rattle.factor.proofs.cholesky.mul_read.Tie as tie
 
@@ -52,7 +52,7 @@ returns-3 : tie.Need-returns-3
 returns-3 c =
     let g = c.before.before.before.before.before.before.before.before.before.before.before.before.args in
     let e = c.before.before.before.before.mul-into.ensures in
-    ap read_of (mul-refused-8 g.st g.store.now g.out.now _ c.before.before.before.before.before.before.before.before.before.check-mul.ensures c.before.before.before.before.before.before.before.before.if1.false (sym c.if2.false ∙ e.0) refl (e.1.1 c.if2.false))
+    ap read_of (mul-refused_8 g.st g.store.now g.out.now _ c.before.before.before.before.before.before.before.before.before.check-mul.ensures c.before.before.before.before.before.before.before.before.if1.false (sym c.if2.false ∙ e.0) refl (e.1.1 c.if2.false))
 
 pub mul-read-spec : {M : Type 1} → statement M
 mul-read-spec =

@@ -4,7 +4,7 @@ use borrow.Author.Rules.{rules}
 use mathlib.Core.List.{[], ◌∷◌}
 use Rattle.leaves.proofs.Overs.{lent_fits, lent_long}
 use Rattle.factor.specs.Tests.{finite_test}
-use Rattle.factor.proofs.Holds.{solve_ready, solve-refused, solve-answered, solve-refused-8}
+use Rattle.factor.proofs.Holds.{solve_ready, solve-refused, solve-answered, solve-refused_8}
 use Rattle.factor.proofs.cholesky.solve.Statement.{statement}
 use Rattle.factor.proofs.cholesky.solve.Tie as tie
 
@@ -65,7 +65,7 @@ returns-3 : tie.Need-returns-3
 returns-3 c =
     let g = c.before.before.before.before.before.before.before.before.before.before.before.before.before.before.before.before.before.before.before.args in
     let e = c.before.before.before.before.before.before.before.before.solve-into.ensures in
-    solve-refused-8 g.st g.order.now g.rhs.now g.store.now g.out.now _ c.before.before.before.before.before.before.before.before.before.before.before.before.before.before.check-solve.ensures c.before.before.before.before.before.before.before.before.before.before.before.before.before.if1.false (sym c.if2.false ∙ e.0) c.before.before.before.rest-room.ensures (e.1.1 c.if2.false)
+    solve-refused_8 g.st g.order.now g.rhs.now g.store.now g.out.now _ c.before.before.before.before.before.before.before.before.before.before.before.before.before.before.check-solve.ensures c.before.before.before.before.before.before.before.before.before.before.before.before.before.if1.false (sym c.if2.false ∙ e.0) c.before.before.before.rest-room.ensures (e.1.1 c.if2.false)
 
 pub solve-spec : {M : Type 1} → statement M
 solve-spec =

@@ -9,9 +9,9 @@ use Rattle.leaves.specs.inner.Patch.{patch}
 use Rattle.factor.specs.inner.Worked.{seen_in}
 use Rattle.leaves.proofs.Overs.{lent_fits, lent_long}
 use Rattle.reduce.proofs.Begins.{kept-bench}
-use Rattle.reduce.proofs.Lent.{front-in, front-again, front_long}
-use Rattle.factor.proofs.Stores.{norms_part, norms-size, norms-read, norms-past}
-use Rattle.factor.proofs.Workings.{store-reduced, room-laid, room_long}
+use Rattle.reduce.proofs.Lent.{front_in, front_again, front_long}
+use Rattle.factor.proofs.Stores.{norms_part, norms-size, norms_read, norms-past}
+use Rattle.factor.proofs.Workings.{store-reduced, room_laid, room_long}
 use Rattle.factor.proofs.factor.factor_room.Statement.{statement}
 use Rattle.factor.proofs.factor.factor_room.Tie as tie
 
@@ -53,7 +53,7 @@ array-share-prefix-diag c =
     let n = c.before.before.before.before.before.before.before.before.before.before.before.before.before.before.before.before.before.args.n in
     let r = c.before.before.before.before.before.before.before.before.before.before.before.before.before.room16 in
     let x = c.before.before.before.before.before.before.before.before.reduce_filled in
-    front-in n x.new.1.1.1.0 r.result (lent_fits n r.result r.ensures c.before.before.before.before.before.before.before.before.before.before.before.before.before.before.before.before.before.requires.0.across) x.auto.1.1.1.0
+    front_in n x.new.1.1.1.0 r.result (lent_fits n r.result r.ensures c.before.before.before.before.before.before.before.before.before.before.before.before.before.before.before.before.before.requires.0.across) x.auto.1.1.1.0
 
 slice-aggregate-lay-store : tie.Need-slice-aggregate-lay-store
 slice-aggregate-lay-store c =
@@ -108,8 +108,8 @@ returns c =
     let b = x.new.1.1.1.1.1.0 in
     let lv = x.auto.1.1.0 ∙ norms_part n s (a + n - a) (omega arith) h in
     let e = store-reduced g.m n s r.result v d g.bench.now b g.order.now o (a + n - a) p.0 p.1.0 h p.1.1.1 r.ensures (omega arith) x.ensures in
-    let f = front-again n d r.result (lent_fits n r.result r.ensures p.0.across) x.auto.1.1.1.0 in (
-      room-laid g.m n j t v d _ b o e f _ s (patch a (a + n - a) s v) (norms-read n s v h lv (a + n - a) (omega arith)) (norms-past n s v h lv (a + n - a) (omega arith)) y.ensures.0,
+    let f = front_again n d r.result (lent_fits n r.result r.ensures p.0.across) x.auto.1.1.1.0 in (
+      room_laid g.m n j t v d _ b o e f _ s (patch a (a + n - a) s v) (norms_read n s v h lv (a + n - a) (omega arith)) (norms-past n s v h lv (a + n - a) (omega arith)) y.ensures.0,
       (e.order, (c.before.before.before.clear-long.ensures ∙ ap zeros x.auto.1.1.1.1.1.0, (room_long g.m n j t v d _ b o e f y.ensures.1, c.seen_of.ensures ∙ ap seen_in e.reply))),
     )
 

@@ -2,7 +2,7 @@
 use mathlib.Core.Path.{sym, ◌∙◌}
 use borrow.Author.Rules.{rules}
 use lib.ListN.{length}
-use Rattle.factor.proofs.filled.Filling.{filling_passed, filling-refused, filling-answered, filling-broken}
+use Rattle.factor.proofs.filled.Filling.{filling_passed, filling_refused, filling_answered, filling_broken}
 use Rattle.factor.proofs.filled.factor_filled.Statement.{statement}
 use Rattle.factor.proofs.filled.factor_filled.Tie as tie
 
@@ -13,7 +13,7 @@ returns : tie.Need-returns
 returns c =
     let g = c.before.before.before.before.before.args in
     let x = c.before.check-filled in
-    filling-refused g.m g.n g.store.now g.order.now g.bench.now x.result x.ensures c.if1.true
+    filling_refused g.m g.n g.store.now g.order.now g.bench.now x.result x.ensures c.if1.true
 
 filled-working-requires : tie.Need-filled-working-requires
 filled-working-requires c κs =
@@ -34,7 +34,7 @@ returns-2 c =
     let g = c.before.before.before.before.before.before.before.before.before.before.before.before.before.before.before.before.before.args in
     let x = c.before.before.before.before.before.before.before.before.before.before.before.before.before.check-filled in
     let w = c.before.before.before.before.before.before.before.before.filled-working in
-    filling-answered g.m g.n g.store.now g.order.now g.bench.now x.result w.result.finite w.result.seen _ _ _ x.ensures c.before.before.before.before.before.before.before.before.before.before.before.before.if1.false w.ensures c.if2.true
+    filling_answered g.m g.n g.store.now g.order.now g.bench.now x.result w.result.finite w.result.seen _ _ _ x.ensures c.before.before.before.before.before.before.before.before.before.before.before.before.if1.false w.ensures c.if2.true
 
 same-length-4 : tie.Need-same-length-4
 same-length-4 c = c.before.before.before.before.before.before.before.before.filled-working.auto.1.1.0
@@ -50,7 +50,7 @@ returns-3 c =
     let g = c.before.before.before.before.before.before.before.before.before.before.before.before.before.before.before.before.before.args in
     let x = c.before.before.before.before.before.before.before.before.before.before.before.before.before.check-filled in
     let w = c.before.before.before.before.before.before.before.before.filled-working in
-    filling-broken g.m g.n g.store.now g.order.now g.bench.now x.result w.result.finite w.result.seen _ _ _ x.ensures c.before.before.before.before.before.before.before.before.before.before.before.before.if1.false w.ensures c.if2.false
+    filling_broken g.m g.n g.store.now g.order.now g.bench.now x.result w.result.finite w.result.seen _ _ _ x.ensures c.before.before.before.before.before.before.before.before.before.before.before.before.if1.false w.ensures c.if2.false
 
 pub factor-filled-spec : {M : Type 1} → statement M
 factor-filled-spec =

@@ -5,7 +5,7 @@ use native.Mathlib.Omega.{arith}
 use borrow.Author.Rules.{rules}
 use lib.ListN.{length, set, length-set, length-take, length-drop}
 use borrow.Rule.Slice.PartMut.{same_len_mid}
-use Rattle.factor.proofs.held.Helds.{below-law}
+use Rattle.factor.proofs.held.Helds.{below_law}
 use Rattle.factor.proofs.held.add_below.Statement.{statement}
 use Rattle.factor.proofs.held.add_below.Tie as tie
 
@@ -63,7 +63,7 @@ same_length c =
 returns : tie.Need-returns
 returns c =
     let g = c.before.before.before.before.before.before.before.args in
-    below-law g.n g.square.now c.before.before.before.before.before.before.before.requires.0 g.j c.before.before.before.before.before.before.before.requires.1.0.0 g.w.now _ g.v g.a c.before.before.before.before.before.before.before.requires.1.1 c.before.before.axpy-of.ensures
+    below_law g.n g.square.now c.before.before.before.before.before.before.before.requires.0 g.j c.before.before.before.before.before.before.before.requires.1.0.0 g.w.now _ g.v g.a c.before.before.before.before.before.before.before.requires.1.1 c.before.before.axpy-of.ensures
 
 pub add-below-spec : {M : Type 1} → statement M
 add-below-spec =

@@ -2,7 +2,7 @@
 use native.Mathlib.Omega.{arith}
 use borrow.Author.Rules.{rules}
 use lib.ListN.{length-take, length-drop}
-use Rattle.factor.proofs.held.Helds.{forward-law}
+use Rattle.factor.proofs.held.Helds.{forward_law}
 use Rattle.factor.proofs.held.forward_place.Statement.{statement}
 use Rattle.factor.proofs.held.forward_place.Tie as tie
 
@@ -57,7 +57,7 @@ same_length c = search rules
 returns : tie.Need-returns
 returns c =
     let g = c.before.before.before.before.before.before.before.args in
-    forward-law g.n _ c.before.before.before.before.before.before.before.requires.0 g.j c.before.before.before.before.before.before.before.requires.1.0.0 g.w.now _ c.before.before.dot-of.ensures
+    forward_law g.n _ c.before.before.before.before.before.before.before.requires.0 g.j c.before.before.before.before.before.before.before.requires.1.0.0 g.w.now _ c.before.before.dot-of.ensures
 
 pub forward-place-spec : {M : Type 1} → statement M
 forward-place-spec =

@@ -7,7 +7,7 @@ use mathlib.Core.List.{[]}
 use lib.ListN.{length, take, drop}
 use Rattle.leaves.specs.Square.{uppers_of}
 use Rattle.factor.specs.Held.{forward_upper}
-use Rattle.leaves.proofs.Squares.{column-end, uppers_of-length}
+use Rattle.leaves.proofs.Squares.{column_end, uppers_of-length}
 use Rattle.factor.proofs.held.Helds.{forward_turn, forward-end}
 use Rattle.factor.proofs.held.forward_upper.Statement.{statement}
 use Rattle.factor.proofs.held.forward_upper.Tie as tie
@@ -25,7 +25,7 @@ forward-place-requires : tie.Need-forward-place-requires invariant-loop decrease
 forward-place-requires c κs =
     let q = c.before.before.before.before.before.requires.0 in
     let h : c.before.before.loop.j < c.before.before.before.before.before.args.n = omega arith in
-    (q, ((h, column-end _ _ q c.before.before.loop.j h), search rules))
+    (q, ((h, column_end _ _ q c.before.before.loop.j h), search rules))
 
 add-j : tie.Need-overflow-add-j invariant-loop decreases-loop
 add-j c = search rules

@@ -7,7 +7,7 @@ use mathlib.Core.List.{◌++◌}
 use lib.ListN.{length, take, drop}
 use Rattle.leaves.specs.Square.{belows_of}
 use Rattle.factor.specs.Held.{mul_lower}
-use Rattle.leaves.proofs.Squares.{column-end, belows_of-length}
+use Rattle.leaves.proofs.Squares.{column_end, belows_of-length}
 use Rattle.factor.proofs.held.Helds.{mul_turn, mul-end}
 use Rattle.factor.proofs.held.mul_onto.Statement.{statement}
 use Rattle.factor.proofs.held.mul_onto.Tie as tie
@@ -49,7 +49,7 @@ add-below-requires : tie.Need-add-below-requires invariant-loop decreases-loop
 add-below-requires c κs =
     let q = c.before.before.before.before.before.before.before.before.before.before.before.requires.0 in
     let h : c.before.before.before.before.before.before.loop.j < c.before.before.before.before.before.before.before.before.before.before.before.args.n = omega arith in
-    (q, ((h, column-end _ _ q c.before.before.before.before.before.before.loop.j h), search rules))
+    (q, ((h, column_end _ _ q c.before.before.before.before.before.before.loop.j h), search rules))
 
 add-j : tie.Need-overflow-add-j invariant-loop decreases-loop
 add-j c = search rules

@@ -7,7 +7,7 @@ use lib.ListN.{length, length-set}
 use Rattle.leaves.specs.Square.{uppers_of}
 use Rattle.factor.specs.Held.{mul_upper}
 use Rattle.leaves.proofs.Folds.{front, front_turn, front_end}
-use Rattle.leaves.proofs.Squares.{column-end}
+use Rattle.leaves.proofs.Squares.{column_end}
 use Rattle.factor.proofs.held.Helds.{mul_upper-length}
 use Rattle.factor.proofs.held.mul_upper.Statement.{statement}
 use Rattle.factor.proofs.held.mul_upper.Tie as tie
@@ -25,7 +25,7 @@ row-times-requires : tie.Need-row-times-requires invariant-loop decreases-loop
 row-times-requires c κs =
     let q = c.before.before.before.before.before.requires.0 in
     let h : c.before.loop.j < c.before.before.before.before.before.args.n = omega arith in
-    (q, ((h, column-end _ _ q c.before.loop.j h), search rules))
+    (q, ((h, column_end _ _ q c.before.loop.j h), search rules))
 
 mul-out : tie.Need-overflow-mul-out invariant-loop decreases-loop
 mul-out c = search rules

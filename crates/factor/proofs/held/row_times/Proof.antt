@@ -2,7 +2,7 @@
 use native.Mathlib.Omega.{arith}
 use borrow.Author.Rules.{rules}
 use lib.ListN.{length-take, length-drop}
-use Rattle.factor.proofs.held.Helds.{row-law}
+use Rattle.factor.proofs.held.Helds.{row_law}
 use Rattle.factor.proofs.held.row_times.Statement.{statement}
 use Rattle.factor.proofs.held.row_times.Tie as tie
 
@@ -36,7 +36,7 @@ dot-of-requires c κs = simp (length-take, length-drop) (omega arith)
 returns : tie.Need-returns
 returns c =
     let g = c.before.before.before.before.before.args in
-    row-law g.n g.square.now c.before.before.before.before.before.requires.0 g.j c.before.before.before.before.before.requires.1.0.0 g.q.now _ c.dot-of.ensures
+    row_law g.n g.square.now c.before.before.before.before.before.requires.0 g.j c.before.before.before.before.before.requires.1.0.0 g.q.now _ c.dot-of.ensures
 
 pub row-times-spec : {M : Type 1} → statement M
 row-times-spec =

@@ -5,7 +5,7 @@ use borrow.Author.Rules.{rules}
 use lib.ListN.{length}
 use Rattle.factor.proofs.Layouts.{square_of_lem}
 use Rattle.factor.proofs.Lent.{part_read, part_fits}
-use Rattle.factor.proofs.Holds.{damped-multiplies}
+use Rattle.factor.proofs.Holds.{damped_multiplies}
 use Rattle.factor.proofs.holding.mul_damped.Statement.{statement}
 use Rattle.factor.proofs.holding.mul_damped.Tie as tie
 
@@ -69,7 +69,7 @@ returns c =
     let g = c.before.before.before.before.before.before.before.before.before.before.before.args in
     let q = part_read g.n 0 c.before.before.before.before.before.before.before.before.part_at.result g.store.now c.before.before.before.before.before.before.before.before.part_at.ensures.0 in
     let d = part_read g.n 2 c.before.before.before.before.before.before.before.part-at2.result g.store.now c.before.before.before.before.before.before.before.part-at2.ensures.0 in
-    damped-multiplies g.n g.store.now c.before.before.before.before.before.before.before.before.before.before.before.requires.0 q d c.before.before.mul-lower.ensures
+    damped_multiplies g.n g.store.now c.before.before.before.before.before.before.before.before.before.before.before.requires.0 q d c.before.before.mul-lower.ensures
 
 pub mul-damped-spec : {M : Type 1} → statement M
 mul-damped-spec =

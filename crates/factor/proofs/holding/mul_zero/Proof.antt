@@ -5,7 +5,7 @@ use borrow.Author.Rules.{rules}
 use lib.ListN.{length}
 use Rattle.factor.proofs.Layouts.{square_of_lem}
 use Rattle.factor.proofs.Lent.{part_read, part_fits}
-use Rattle.factor.proofs.Holds.{zero-multiplies}
+use Rattle.factor.proofs.Holds.{zero_multiplies}
 use Rattle.factor.proofs.holding.mul_zero.Statement.{statement}
 use Rattle.factor.proofs.holding.mul_zero.Tie as tie
 
@@ -48,7 +48,7 @@ returns : tie.Need-returns
 returns c =
     let g = c.before.before.before.before.before.before.before.before.before.args in
     let a = c.before.before.before.before.before.before.part_at in
-    zero-multiplies g.n g.store.now (part_read g.n 0 a.result g.store.now a.ensures.0) c.before.before.mul-upper.ensures
+    zero_multiplies g.n g.store.now (part_read g.n 0 a.result g.store.now a.ensures.0) c.before.before.mul-upper.ensures
 
 pub mul-zero-spec : {M : Type 1} → statement M
 mul-zero-spec =

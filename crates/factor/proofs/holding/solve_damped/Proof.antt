@@ -5,7 +5,7 @@ use borrow.Author.Rules.{rules}
 use lib.ListN.{length}
 use Rattle.factor.proofs.Layouts.{square_of_lem}
 use Rattle.factor.proofs.Lent.{part_read, part_fits}
-use Rattle.factor.proofs.Holds.{damped-solves}
+use Rattle.factor.proofs.Holds.{damped_solves}
 use Rattle.factor.proofs.holding.solve_damped.Statement.{statement}
 use Rattle.factor.proofs.holding.solve_damped.Tie as tie
 
@@ -48,7 +48,7 @@ returns : tie.Need-returns
 returns c =
     let g = c.before.before.before.before.before.before.before.before.before.args in
     let a = c.before.before.before.before.before.before.part_at in
-    damped-solves g.n g.store.now g.w.now (part_read g.n 2 a.result g.store.now a.ensures.0) c.before.before.forward-lower.ensures
+    damped_solves g.n g.store.now g.w.now (part_read g.n 2 a.result g.store.now a.ensures.0) c.before.before.forward-lower.ensures
 
 pub solve-damped-spec : {M : Type 1} → statement M
 solve-damped-spec =

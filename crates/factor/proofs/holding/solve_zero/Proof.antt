@@ -2,7 +2,7 @@
 use mathlib.Core.Path.{sym}
 use borrow.Author.Rules.{rules}
 use Rattle.factor.proofs.Layouts.{square_of_lem}
-use Rattle.factor.proofs.Holds.{zero-solves}
+use Rattle.factor.proofs.Holds.{zero_solves}
 use Rattle.factor.proofs.holding.solve_zero.Statement.{statement}
 use Rattle.factor.proofs.holding.solve_zero.Tie as tie
 
@@ -21,7 +21,7 @@ same_length c = search rules
 returns : tie.Need-returns
 returns c =
     let g = c.before.before.before.before.before.before.before.args in
-    zero-solves g.n g.store.now g.w.now c.before.before.forward-upper.ensures
+    zero_solves g.n g.store.now g.w.now c.before.before.forward-upper.ensures
 
 pub solve-zero-spec : {M : Type 1} → statement M
 solve-zero-spec =

@@ -11,7 +11,7 @@ use Rattle.leaves.specs.Square.{joined}
 use Rattle.factor.specs.Factoring.{uppers, no_lower}
 use Rattle.reduce.specs.inner.Bench.{grid}
 use Rattle.leaves.proofs.Overs.{over, over_end}
-use Rattle.factor.proofs.Lays.{whole_long, lay-turn}
+use Rattle.factor.proofs.Lays.{whole_long, lay_turn}
 use Rattle.reduce.proofs.Begins.{bench-wide, bench_long}
 use Rattle.factor.proofs.laying.lay_out.Statement.{statement}
 use Rattle.factor.proofs.laying.lay_out.Tie as tie
@@ -50,7 +50,7 @@ loop-again c =
     let x = c.before.before.lay-column in (
       search rules,
       x.auto.1.1.1.1.1.0 ∙ l.invariant.1,
-      lay-turn g.m g.n cs g.diag.now (bench-wide g.m g.n b) c.before.before.before.before.before.before.before.before.before.before.requires.1.0 (bench_long g.m g.n b c.before.before.before.before.before.before.before.before.before.before.requires.0) l.k (get_or (grid g.m g.n b) l.k []) l.square _ _ h
+      lay_turn g.m g.n cs g.diag.now (bench-wide g.m g.n b) c.before.before.before.before.before.before.before.before.before.before.requires.1.0 (bench_long g.m g.n b c.before.before.before.before.before.before.before.before.before.before.requires.0) l.k (get_or (grid g.m g.n b) l.k []) l.square _ _ h
           (sym (get_or-take g.n (grid g.m g.n b) l.k [] h)) l.invariant.2 x.ensures,
     )
 

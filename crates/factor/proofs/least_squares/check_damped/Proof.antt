@@ -6,7 +6,7 @@ use borrow.Author.Rules.{rules}
 use lib.ListN.{length}
 use lib.Seq.{length-take-le}
 use Rattle.factor.proofs.Passed.{solve_passed}
-use Rattle.factor.proofs.least_squares.Outcomes.{tests_at, damped-stopped, damped-unfit, damped-passed}
+use Rattle.factor.proofs.least_squares.Outcomes.{tests_at, damped-stopped, damped_unfit, damped_passed}
 use Rattle.factor.proofs.least_squares.check_damped.Statement.{statement}
 use Rattle.factor.proofs.least_squares.check_damped.Tie as tie
 
@@ -33,12 +33,12 @@ all-finite-requires c κs = search rules
 returns-2 : tie.Need-returns-2
 returns-2 c =
     let g = c.before.before.before.before.before.before.before.before.args in
-    damped-passed g.st g.diag.now g.order.now g.store g.out (tests_at g.st g.store g.order.now c.before.before.before.before.ordered.ensures c.before.before.before.before.before.least.ensures) c.before.before.before.if1.false (sym c.before.all-finite.ensures ∙ c.if2.true)
+    damped_passed g.st g.diag.now g.order.now g.store g.out (tests_at g.st g.store g.order.now c.before.before.before.before.ordered.ensures c.before.before.before.before.before.least.ensures) c.before.before.before.if1.false (sym c.before.all-finite.ensures ∙ c.if2.true)
 
 returns-3 : tie.Need-returns-3
 returns-3 c =
     let g = c.before.before.before.before.before.before.before.before.args in
-    damped-unfit g.st g.diag.now g.order.now g.store g.out (tests_at g.st g.store g.order.now c.before.before.before.before.ordered.ensures c.before.before.before.before.before.least.ensures) c.before.before.before.if1.false (sym c.before.all-finite.ensures ∙ c.if2.false)
+    damped_unfit g.st g.diag.now g.order.now g.store g.out (tests_at g.st g.store g.order.now c.before.before.before.before.ordered.ensures c.before.before.before.before.before.least.ensures) c.before.before.before.if1.false (sym c.before.all-finite.ensures ∙ c.if2.false)
 
 pub check-damped-spec : {M : Type 1} → statement M
 check-damped-spec =

@@ -3,7 +3,7 @@ use mathlib.Core.Path.{refl, sym, ◌∙◌}
 use borrow.Author.Rules.{rules}
 use lib.ListN.{take}
 use borrow.Author.Tests.{not-true, not-false}
-use Rattle.factor.proofs.Damped.{damped-store, damped-out, damped-finite, damped-emptied}
+use Rattle.factor.proofs.Damped.{damped-store, damped_out, damped_finite, damped-emptied}
 use Rattle.factor.proofs.least_squares.damped_finite.Statement.{statement}
 use Rattle.factor.proofs.least_squares.damped_finite.Tie as tie
 
@@ -37,7 +37,7 @@ returns c =
     let x = c.before.before.before.before.before.before.before.before.before.before.before.before.before.damped-step in
     let y = c.before.before.before.before.before.before.before.before.before.before.before.before.before.before.before.before.before.before.before.before.gather-into in
     let z = c.before.before.before.before.before.before.before.before.before.before.before.before.before.before.before.before.before.before.before.before.before.before.before.before.before.before.before.before.before.requires.0.1 in (
-      sym (not-true _ c.before.before.before.before.if1.true) ∙ damped-finite g.n (take g.n g.order.now) g.diag.now g.store.now y.new.1.1.1.0 x.new.1.0 x.new.1.1.1.1.0 y.ensures x.ensures.0 x.ensures.1 c.before.before.before.before.before.all-finite.ensures,
+      sym (not-true _ c.before.before.before.before.if1.true) ∙ damped_finite g.n (take g.n g.order.now) g.diag.now g.store.now y.new.1.1.1.0 x.new.1.0 x.new.1.1.1.1.0 y.ensures x.ensures.0 x.ensures.1 c.before.before.before.before.before.all-finite.ensures,
       (damped-emptied g.n (take g.n g.order.now) g.diag.now g.store.now y.new.1.1.1.0 x.new.1.0 x.new.1.1.1.1.0 y.ensures x.ensures.0 x.ensures.1 z (record { small = z.small; fits = rw x.auto.1.0 z.fits }) c.before.before.empty-room.ensures, refl),
     )
 
@@ -64,8 +64,8 @@ returns-2 c =
     let g = c.before.before.before.before.before.before.before.before.before.before.before.before.before.before.before.before.before.before.before.before.before.before.before.before.before.before.before.before.before.before.args in
     let x = c.before.before.before.before.before.before.before.before.before.before.before.before.before.before.damped-step in
     let y = c.before.before.before.before.before.before.before.before.before.before.before.before.before.before.before.before.before.before.before.before.before.gather-into in (
-      sym (not-false _ c.before.before.before.before.before.if1.false) ∙ damped-finite g.n (take g.n g.order.now) g.diag.now g.store.now y.new.1.1.1.0 x.new.1.0 x.new.1.1.1.1.0 y.ensures x.ensures.0 x.ensures.1 c.before.before.before.before.before.before.all-finite.ensures,
-      (damped-store g.n (take g.n g.order.now) g.diag.now g.store.now y.new.1.1.1.0 x.new.1.0 x.new.1.1.1.1.0 y.ensures x.ensures.0 x.ensures.1, damped-out g.n (take g.n g.order.now) g.diag.now g.store.now y.new.1.1.1.0 x.new.1.0 x.new.1.1.1.1.0 y.ensures x.ensures.0 x.ensures.1 g.out.now c.before.before.scatter-into.ensures),
+      sym (not-false _ c.before.before.before.before.before.if1.false) ∙ damped_finite g.n (take g.n g.order.now) g.diag.now g.store.now y.new.1.1.1.0 x.new.1.0 x.new.1.1.1.1.0 y.ensures x.ensures.0 x.ensures.1 c.before.before.before.before.before.before.all-finite.ensures,
+      (damped-store g.n (take g.n g.order.now) g.diag.now g.store.now y.new.1.1.1.0 x.new.1.0 x.new.1.1.1.1.0 y.ensures x.ensures.0 x.ensures.1, damped_out g.n (take g.n g.order.now) g.diag.now g.store.now y.new.1.1.1.0 x.new.1.0 x.new.1.1.1.1.0 y.ensures x.ensures.0 x.ensures.1 g.out.now c.before.before.scatter-into.ensures),
     )
 
 pub damped-finite-spec : {M : Type 1} → statement M

@@ -5,7 +5,7 @@ use borrow.Author.Rules.{rules}
 use mathlib.Core.List.{◌++◌}
 use lib.ListN.{drop}
 use Rattle.factor.proofs.Layouts.{square_of_lem}
-use Rattle.factor.proofs.Damped.{sized_lent, room-left, step_left}
+use Rattle.factor.proofs.Damped.{sized_lent, room_left, step_left}
 use Rattle.factor.proofs.least_squares.damped_step.Statement.{statement}
 use Rattle.factor.proofs.least_squares.damped_step.Tie as tie
 
@@ -57,7 +57,7 @@ returns c =
     let p = c.before.before.before.before.before.before.before.before.before.before.before.before.before.before.before.before.before.before.before.before.before.before.before.before.before.before.before.before.before.before.requires in
     let x = c.before.before.before.before.before.before.before.before.before.before.before.before.before.before.before.before.before.eliminate_diag in
     let y = c.before.before.before.before.before.before.before.before.before.before.before.before.before.before.before.before.before.before.before.before.before.before.before.copy-part in (
-      room-left g.n g.ds.now g.store.now x.new.1.0 y.new.1.1.1.0 x.new.1.1.1.0 g.ldiag.now x.new.1.1.1.1.0 p.0 p.1.0 p.1.1.0 x.auto.1.0 y.ensures x.ensures (x.auto.1.1.1.1.0 ∙ p.1.1.0) c.before.before.put-damped.ensures,
+      room_left g.n g.ds.now g.store.now x.new.1.0 y.new.1.1.1.0 x.new.1.1.1.0 g.ldiag.now x.new.1.1.1.1.0 p.0 p.1.0 p.1.1.0 x.auto.1.0 y.ensures x.ensures (x.auto.1.1.1.1.0 ∙ p.1.1.0) c.before.before.put-damped.ensures,
       step_left g.n g.ds.now g.store.now x.new.1.0 y.new.1.1.1.0 x.new.1.1.1.0 g.ldiag.now x.new.1.1.1.1.0 p.0 p.1.0 p.1.1.0 x.auto.1.0 y.ensures x.ensures c.before.before.before.before.before.before.before.backward-in.ensures,
     )
 

@@ -3,7 +3,7 @@ use mathlib.Core.Path.{sym}
 use borrow.Author.Rules.{rules}
 use lib.ListN.{length}
 use Rattle.leaves.proofs.Overs.{lent_fits, lent_long}
-use Rattle.factor.proofs.least_squares.Outcomes.{solvable, zero-call-refused, zero-call-answered, zero-call-broken}
+use Rattle.factor.proofs.least_squares.Outcomes.{solvable, zero_call-refused, zero_call-answered, zero_call_broken}
 use Rattle.factor.proofs.least_squares.solve_with_zero_diagonal.Statement.{statement}
 use Rattle.factor.proofs.least_squares.solve_with_zero_diagonal.Tie as tie
 
@@ -13,7 +13,7 @@ ordered-requires c κs = search rules
 returns : tie.Need-returns
 returns c =
     let g = c.before.before.before.before.before.args in
-    zero-call-refused g.st g.order.now g.store.now g.out.now c.before.ordered.ensures c.if1.true
+    zero_call-refused g.st g.order.now g.store.now g.out.now c.before.ordered.ensures c.if1.true
 
 room16-requires : tie.Need-room16-requires
 room16-requires c κs = search rules
@@ -47,7 +47,7 @@ returns-2 : tie.Need-returns-2
 returns-2 c =
     let g = c.before.before.before.before.before.before.before.before.before.before.before.before.before.before.before.before.before.args in
     let x = c.before.before.before.before.before.before.before.zero-finite in
-    zero-call-answered g.st g.order.now g.store.now g.out.now c.before.before.before.before.before.before.before.before.before.before.before.before.before.ordered.ensures c.before.before.before.before.before.before.before.before.before.before.before.before.if1.false x.ensures.0 c.before.if2.true c.with-held.ensures x.ensures.1.0 x.ensures.1.1
+    zero_call-answered g.st g.order.now g.store.now g.out.now c.before.before.before.before.before.before.before.before.before.before.before.before.before.ordered.ensures c.before.before.before.before.before.before.before.before.before.before.before.before.if1.false x.ensures.0 c.before.if2.true c.with-held.ensures x.ensures.1.0 x.ensures.1.1
 
 with-held-requires-2 : tie.Need-with-held-requires-2
 with-held-requires-2 c κs = search rules
@@ -62,7 +62,7 @@ returns-3 : tie.Need-returns-3
 returns-3 c =
     let g = c.before.before.before.before.before.before.before.before.before.before.before.before.before.before.before.before.before.args in
     let x = c.before.before.before.before.before.before.before.zero-finite in
-    zero-call-broken g.st g.order.now g.store.now g.out.now c.before.before.before.before.before.before.before.before.before.before.before.before.before.ordered.ensures c.before.before.before.before.before.before.before.before.before.before.before.before.if1.false x.ensures.0 c.before.if2.false c.with-held2.ensures x.ensures.1.0 x.ensures.1.1
+    zero_call_broken g.st g.order.now g.store.now g.out.now c.before.before.before.before.before.before.before.before.before.before.before.before.before.ordered.ensures c.before.before.before.before.before.before.before.before.before.before.before.before.if1.false x.ensures.0 c.before.if2.false c.with-held2.ensures x.ensures.1.0 x.ensures.1.1
 
 pub solve-with-zero-diagonal-spec : {M : Type 1} → statement M
 solve-with-zero-diagonal-spec =

@@ -8,7 +8,7 @@ use Rattle.factor.specs.Room.{load}
 use Rattle.factor.specs.Parts.{diagonal_in}
 use Rattle.factor.proofs.Layouts.{square_of_lem, square_upper}
 use Rattle.leaves.proofs.Insides.{square_small}
-use Rattle.factor.proofs.Lends.{fit, each_long, front_long, store-sized, lent-refused, lent_written}
+use Rattle.factor.proofs.Lends.{fit, each_long, front_long, store_sized, lent-refused, lent_written}
 use Rattle.factor.proofs.parts.diagonal.Statement.{statement}
 use Rattle.factor.proofs.parts.diagonal.Tie as tie
 
@@ -29,7 +29,7 @@ mul-nn c =
 slice-aggregate-copy-diagonal : tie.Need-slice-aggregate-copy-diagonal
 slice-aggregate-copy-diagonal c =
     let g = c.before.before.before.before.before.args in
-    sym (square_of_lem g.n g.store.now (store-sized 1 g.n g.store.now (length g.w.now) c.before.before.sizes.ensures c.before.if1.false)).whole
+    sym (square_of_lem g.n g.store.now (store_sized 1 g.n g.store.now (length g.w.now) c.before.before.sizes.ensures c.before.if1.false)).whole
 
 slice-relend-prefix-copy-diagonal : tie.Need-slice-relend-prefix-copy-diagonal
 slice-relend-prefix-copy-diagonal c =
@@ -46,7 +46,7 @@ copy-diagonal-requires c κs =
     let g = c.before.before.before.before.before.before.args in
     let e = c.before.before.before.sizes.ensures in
     let z = c.before.before.if1.false in
-    (square_of_lem g.n g.store.now (store-sized 1 g.n g.store.now (length g.w.now) e z), front_long 1 g.n g.store.now g.w.now e z)
+    (square_of_lem g.n g.store.now (store_sized 1 g.n g.store.now (length g.w.now) e z), front_long 1 g.n g.store.now g.w.now e z)
 
 same_length : tie.Need-same-length
 same_length c = search rules

@@ -4,7 +4,7 @@ use borrow.Author.Rules.{rules}
 use lib.ListN.{length}
 use Rattle.factor.specs.Parts.{norms_in}
 use Rattle.factor.specs.Room.{load}
-use Rattle.factor.proofs.Lends.{each_long, front_long, store-sized, lent-refused, lent_written}
+use Rattle.factor.proofs.Lends.{each_long, front_long, store_sized, lent-refused, lent_written}
 use native.Mathlib.Omega.{arith}
 use Rattle.factor.proofs.Layouts.{norms_is}
 use Rattle.factor.proofs.parts.norms.Statement.{statement}
@@ -34,7 +34,7 @@ copy-part-requires c κs =
     let g = c.before.before.before.before.before.args in
     let e = c.before.before.sizes.ensures in
     let z = c.before.if1.false in
-    (store-sized 1 g.n g.store.now (length g.w.now) e z, (omega arith, front_long 1 g.n g.store.now g.w.now e z))
+    (store_sized 1 g.n g.store.now (length g.w.now) e z, (omega arith, front_long 1 g.n g.store.now g.w.now e z))
 
 same_length : tie.Need-same-length
 same_length c = search rules

@@ -9,7 +9,7 @@ use Rattle.leaves.specs.Reply.{answered, refused}
 use Rattle.leaves.proofs.Refusals.{call-refused, call-worked}
 use Rattle.factor.specs.Outcome.{read}
 use Rattle.factor.specs.Parts.{rest_in}
-use Rattle.factor.proofs.Lends.{store-sized}
+use Rattle.factor.proofs.Lends.{store_sized}
 use Rattle.factor.proofs.parts.rest.Statement.{statement}
 use Rattle.factor.proofs.parts.rest.Tie as tie
 
@@ -25,7 +25,7 @@ returns c =
 rest-room-requires : tie.Need-rest-room-requires
 rest-room-requires c κs =
     let g = c.before.before.before.before.args in
-    store-sized 1 g.n g.store.now g.n c.before.before.sizes.ensures c.before.if1.false
+    store_sized 1 g.n g.store.now g.n c.before.before.sizes.ensures c.before.if1.false
 
 same_length : tie.Need-same-length
 same_length c = search rules

@@ -4,7 +4,7 @@ use borrow.Author.Rules.{rules}
 use Prim.Native.Nat.{min}
 use lib.ListN.{length}
 use Rattle.leaves.proofs.Overs.{lent_fits, lent_long}
-use Rattle.factor.proofs.Lends.{tested_at, cols_some, cols_few, store-sized, both-fit, both_long}
+use Rattle.factor.proofs.Lends.{tested_at, cols_some, cols_few, store_sized, both-fit, both_long}
 use Rattle.factor.proofs.PivotOrders.{damped-refused, damped-written}
 use Rattle.factor.proofs.pivot_order.damped.Statement.{statement}
 use Rattle.factor.proofs.pivot_order.damped.Tie as tie
@@ -55,7 +55,7 @@ damped-numbers-requires c κs =
     let z = c.before.before.before.before.before.if1.false in
     let s = (min (length g.ds.now) (length g.w.now)) in
     let l = both_long 1 g.n g.store.now g.ds.now g.w.now e z in
-    ((cols_some 1 g.n g.store.now s e z, store-sized 1 g.n g.store.now s e z), (l.0, (lent_long g.n _ c.before.before.before.before.room16.ensures (cols_few 1 g.n g.store.now s e z), l.1)))
+    ((cols_some 1 g.n g.store.now s e z, store_sized 1 g.n g.store.now s e z), (l.0, (lent_long g.n _ c.before.before.before.before.room16.ensures (cols_few 1 g.n g.store.now s e z), l.1)))
 
 same_length : tie.Need-same-length
 same_length c = search rules

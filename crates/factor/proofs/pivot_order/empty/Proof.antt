@@ -9,7 +9,7 @@ use Rattle.leaves.specs.Reply.{answered, refused}
 use Rattle.leaves.proofs.Refusals.{call-refused, call-worked}
 use Rattle.factor.specs.Outcome.{read}
 use Rattle.factor.specs.PivotOrder.{empty_in}
-use Rattle.factor.proofs.Lends.{store-sized}
+use Rattle.factor.proofs.Lends.{store_sized}
 use Rattle.factor.proofs.pivot_order.empty.Statement.{statement}
 use Rattle.factor.proofs.pivot_order.empty.Tie as tie
 
@@ -25,7 +25,7 @@ returns c =
 empty-room-requires : tie.Need-empty-room-requires
 empty-room-requires c κs =
     let g = c.before.before.before.before.args in
-    store-sized 1 g.n g.store.now g.n c.before.before.sizes.ensures c.before.if1.false
+    store_sized 1 g.n g.store.now g.n c.before.before.sizes.ensures c.before.if1.false
 
 same_length : tie.Need-same-length
 same_length c = search rules

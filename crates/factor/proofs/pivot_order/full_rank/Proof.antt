@@ -4,7 +4,7 @@ use native.Mathlib.Omega.{arith}
 use borrow.Author.Rules.{rules}
 use Rattle.leaves.proofs.Insides.{square_small}
 use Rattle.factor.proofs.Layouts.{square_of_lem}
-use Rattle.factor.proofs.Lends.{fit, store-sized}
+use Rattle.factor.proofs.Lends.{fit, store_sized}
 use Rattle.factor.proofs.PivotOrders.{full_rank-refused, full_rank-told}
 use Rattle.factor.proofs.pivot_order.full_rank.Statement.{statement}
 use Rattle.factor.proofs.pivot_order.full_rank.Tie as tie
@@ -25,12 +25,12 @@ mul-nn c =
 slice-aggregate-non-singular : tie.Need-slice-aggregate-non-singular
 slice-aggregate-non-singular c =
     let g = c.before.before.before.before.args in
-    sym (square_of_lem g.n g.store.now (store-sized g.m g.n g.store.now g.n c.before.before.sizes.ensures c.before.if1.false)).whole
+    sym (square_of_lem g.n g.store.now (store_sized g.m g.n g.store.now g.n c.before.before.sizes.ensures c.before.if1.false)).whole
 
 non-singular-requires : tie.Need-non-singular-requires
 non-singular-requires c κs =
     let g = c.before.before.before.before.args in
-    square_of_lem g.n g.store.now (store-sized g.m g.n g.store.now g.n c.before.before.sizes.ensures c.before.if1.false)
+    square_of_lem g.n g.store.now (store_sized g.m g.n g.store.now g.n c.before.before.sizes.ensures c.before.if1.false)
 
 returns-2 : tie.Need-returns-2
 returns-2 c =

@@ -4,7 +4,7 @@ use borrow.Author.Rules.{rules}
 use lib.ListN.{length}
 use Rattle.factor.specs.PivotOrder.{held_damped_in}
 use Rattle.factor.specs.declared.state.Held.TheVariants as held
-use Rattle.factor.proofs.Lends.{each_long, front_long, store-sized, lent-refused, lent_written}
+use Rattle.factor.proofs.Lends.{each_long, front_long, store_sized, lent-refused, lent_written}
 use Rattle.factor.proofs.PivotOrders.{held_of}
 use Rattle.factor.proofs.pivot_order.held_damped.Statement.{statement}
 use Rattle.factor.proofs.pivot_order.held_damped.Tie as tie
@@ -33,7 +33,7 @@ solve-damped-requires c κs =
     let g = c.before.before.before.before.before.args in
     let e = c.before.before.sizes.ensures in
     let z = c.before.if1.false in
-    (store-sized 1 g.n g.store.now (length g.w.now) e z, front_long 1 g.n g.store.now g.w.now e z)
+    (store_sized 1 g.n g.store.now (length g.w.now) e z, front_long 1 g.n g.store.now g.w.now e z)
 
 same_length : tie.Need-same-length
 same_length c = search rules

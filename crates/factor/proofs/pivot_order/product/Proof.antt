@@ -3,7 +3,7 @@ use mathlib.Core.Path.{sym}
 use borrow.Author.Rules.{rules}
 use lib.ListN.{length}
 use Rattle.factor.specs.PivotOrder.{product_in}
-use Rattle.factor.proofs.Lends.{each_long, front_long, store-sized, lent-refused, lent_written}
+use Rattle.factor.proofs.Lends.{each_long, front_long, store_sized, lent-refused, lent_written}
 use Rattle.factor.proofs.PivotOrders.{product_of}
 use Rattle.factor.proofs.pivot_order.product.Statement.{statement}
 use Rattle.factor.proofs.pivot_order.product.Tie as tie
@@ -32,7 +32,7 @@ mul-zero-requires c κs =
     let g = c.before.before.before.before.before.args in
     let e = c.before.before.sizes.ensures in
     let z = c.before.if1.false in
-    (store-sized 1 g.n g.store.now (length g.w.now) e z, front_long 1 g.n g.store.now g.w.now e z)
+    (store_sized 1 g.n g.store.now (length g.w.now) e z, front_long 1 g.n g.store.now g.w.now e z)
 
 same_length : tie.Need-same-length
 same_length c = search rules

@@ -3,7 +3,7 @@ use mathlib.Core.Path.{sym}
 use borrow.Author.Rules.{rules}
 use lib.ListN.{length}
 use Rattle.factor.specs.PivotOrder.{zero_in}
-use Rattle.factor.proofs.Lends.{each_long, front_long, store-sized, lent-refused, lent_written}
+use Rattle.factor.proofs.Lends.{each_long, front_long, store_sized, lent-refused, lent_written}
 use Rattle.factor.proofs.PivotOrders.{zero_of}
 use Rattle.factor.proofs.pivot_order.zero.Statement.{statement}
 use Rattle.factor.proofs.pivot_order.zero.Tie as tie
@@ -32,7 +32,7 @@ zero-numbers-requires c κs =
     let g = c.before.before.before.before.before.args in
     let e = c.before.before.sizes.ensures in
     let z = c.before.if1.false in
-    (store-sized g.m g.n g.store.now (length g.w.now) e z, front_long g.m g.n g.store.now g.w.now e z)
+    (store_sized g.m g.n g.store.now (length g.w.now) e z, front_long g.m g.n g.store.now g.w.now e z)
 
 same_length : tie.Need-same-length
 same_length c = search rules

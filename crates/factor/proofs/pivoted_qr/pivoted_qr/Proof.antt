@@ -3,7 +3,7 @@ use Prim.Native.Nat.{◌-◌}
 use mathlib.Core.Path.{sym, ◌∙◌}
 use borrow.Author.Rules.{rules}
 use lib.ListN.{length}
-use Rattle.factor.proofs.pivoted_qr.Factorings.{factoring-refused, factoring-answered, factoring-broken}
+use Rattle.factor.proofs.pivoted_qr.Factorings.{factoring-refused, factoring-answered, factoring_broken}
 use Rattle.factor.proofs.Passed.{factor_passed, factor_inside}
 use Rattle.factor.proofs.pivoted_qr.pivoted_qr.Statement.{statement}
 use Rattle.factor.proofs.pivoted_qr.pivoted_qr.Tie as tie
@@ -55,7 +55,7 @@ returns-3 c =
     let g = c.before.before.before.before.before.before.before.before.before.before.before.before.before.before.before.before.before.before.before.args in
     let x = c.before.before.before.before.before.before.before.before.before.before.before.before.before.check-factor in
     let w = c.before.before.before.before.before.before.before.before.factor-working in
-    factoring-broken g.m g.n g.jacobian.now g.residuals.now g.store.now g.order.now g.bench.now x.result w.result.finite w.result.seen _ _ _ x.ensures c.before.before.before.before.before.before.before.before.before.before.before.before.if1.false c.if2.false w.ensures
+    factoring_broken g.m g.n g.jacobian.now g.residuals.now g.store.now g.order.now g.bench.now x.result w.result.finite w.result.seen _ _ _ x.ensures c.before.before.before.before.before.before.before.before.before.before.before.before.if1.false c.if2.false w.ensures
 
 pub pivoted-qr-spec : {M : Type 1} → statement M
 pivoted-qr-spec =

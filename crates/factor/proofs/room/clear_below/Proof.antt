@@ -4,7 +4,7 @@ use mathlib.Core.Path.{◌≡◌, refl, sym, ◌∙◌}
 use native.Mathlib.Omega.{arith}
 use borrow.Author.Rules.{rules}
 use Rattle.leaves.specs.Square.{uppers_of, belows_of}
-use Rattle.leaves.proofs.Squares.{belows_of-length, below-long}
+use Rattle.leaves.proofs.Squares.{belows_of-length, below_long}
 use Rattle.factor.proofs.Lent.{cleared_to, cleared_none, cleared_turn, cleared-end}
 use Rattle.factor.proofs.room.clear_below.Statement.{statement}
 use Rattle.factor.proofs.room.clear_below.Tie as tie
@@ -38,7 +38,7 @@ loop-again c =
       omega arith,
       record { small = q.small; whole = x.auto.0 ∙ l.invariant.1.whole },
       x.ensures.0 ∙ l.invariant.2,
-      cleared_turn g.n l.k (belows_of g.n g.square.now) (let z = belows_of-length g.n g.square.now in omega arith) (below-long g.n g.square.now q l.k h) l.invariant.3 x.ensures.1,
+      cleared_turn g.n l.k (belows_of g.n g.square.now) (let z = belows_of-length g.n g.square.now in omega arith) (below_long g.n g.square.now q l.k h) l.invariant.3 x.ensures.1,
     )
 
 same_length : tie.Need-same-length invariant-loop decreases-loop

@@ -5,7 +5,7 @@ use native.Mathlib.Omega.{arith}
 use borrow.Author.Rules.{rules}
 use lib.ListN.{length, set, take, drop, length-replicate}
 use Rattle.leaves.proofs.Triangles.{column_fits}
-use Rattle.leaves.proofs.Squares.{column-end}
+use Rattle.leaves.proofs.Squares.{column_end}
 use Rattle.leaves.proofs.Splices.{lent, filled}
 use Rattle.factor.proofs.Lent.{end-upper, end_below}
 use mathlib.Core.List.{List, ◌++◌}
@@ -19,7 +19,7 @@ use Rattle.leaves.specs.inner.Squares.{Square}
 
 module _ (n k a : ℕ) (y s : List Float) (q : Square n s) (h : k < n) (e : a ≡ k * n + suc k) (f : y ≡ zeros (length (take (k * n + n - a) (drop a s)))) where
   end-zero : y ≡ zeros (n - suc k)
-  end-zero = let w : k * n + n - a ≡ n - suc k = omega arith in filled a (k * n + n) y s plus_zero (column-end n s q k h) f ∙ ap zeros w
+  end-zero = let w : k * n + n - a ≡ n - suc k = omega arith in filled a (k * n + n) y s plus_zero (column_end n s q k h) f ∙ ap zeros w
 
   left : (uppers_of n (take a s ++ (y ++ drop (k * n + n - a) (drop a s))) ≡ uppers_of n s)
       × (belows_of n (take a s ++ (y ++ drop (k * n + n - a) (drop a s))) ≡ set (belows_of n s) k (zeros (n - suc k)))
@@ -57,7 +57,7 @@ part-fill-start : tie.Need-slice-bounds-fill-start
 part-fill-start c = search rules
 
 part-fill-end : tie.Need-slice-bounds-fill-end
-part-fill-end c = column-end c.before.args.n c.before.args.square.now c.before.requires.0 c.before.args.k c.before.requires.1
+part-fill-end c = column_end c.before.args.n c.before.args.square.now c.before.requires.0 c.before.args.k c.before.requires.1
 
 fill-requires : tie.Need-fill-requires
 fill-requires c κs = search rules

@@ -5,8 +5,8 @@ use native.Mathlib.Omega.{arith}
 use borrow.Author.Rules.{rules}
 use lib.ListN.{length}
 use Rattle.leaves.specs.Square.{belows_of}
-use Rattle.leaves.proofs.Squares.{column-end, belows_of-length}
-use Rattle.factor.proofs.Backs.{backed, back_none, back-turn, back_end}
+use Rattle.leaves.proofs.Squares.{column_end, belows_of-length}
+use Rattle.factor.proofs.Backs.{backed, back_none, back_turn, back_end}
 use Rattle.factor.proofs.solve.backward_from.Statement.{statement}
 use Rattle.factor.proofs.solve.backward_from.Tie as tie
 
@@ -29,7 +29,7 @@ backward-place-requires : tie.Need-backward-place-requires invariant-loop decrea
 backward-place-requires c κs =
     let q = c.before.before.before.before.before.before.requires.0 in
     let h : c.before.before.loop.j - 1 < c.before.before.before.before.before.before.args.n = omega arith in
-    (q, ((omega arith, omega arith), (column-end _ _ q (c.before.before.loop.j - 1) h, (search rules, search rules))))
+    (q, ((omega arith, omega arith), (column_end _ _ q (c.before.before.loop.j - 1) h, (search rules, search rules))))
 
 loop-less : tie.Need-loop-smaller invariant-loop decreases-loop
 loop-less c = search rules
@@ -40,7 +40,7 @@ loop-again c =
     let l = c.before.before.before.before.before.loop in
     let ls = belows_of g.n g.square.now in
     let z : length ls ≡ g.n = belows_of-length g.n g.square.now in
-    (search rules, search rules, back-turn g.ldiag.now ls g.w.now g.full (omega arith) (omega arith) (omega arith) l.w _ l.j (l.j - 1) (omega arith) (omega arith) l.invariant.2 c.before.before.backward-place.ensures)
+    (search rules, search rules, back_turn g.ldiag.now ls g.w.now g.full (omega arith) (omega arith) (omega arith) l.w _ l.j (l.j - 1) (omega arith) (omega arith) l.invariant.2 c.before.before.backward-place.ensures)
 
 same_length : tie.Need-same-length invariant-loop decreases-loop
 same_length c = search rules

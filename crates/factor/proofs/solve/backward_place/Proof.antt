@@ -1,7 +1,7 @@
 -- `factor::solve::backward_place` meets its contract. Assumes nothing.
 use native.Mathlib.Omega.{arith}
 use borrow.Author.Rules.{rules}
-use Rattle.factor.proofs.Backs.{back-law}
+use Rattle.factor.proofs.Backs.{back_law}
 use Rattle.factor.proofs.solve.backward_place.Statement.{statement}
 use Rattle.factor.proofs.solve.backward_place.Tie as tie
 
@@ -68,7 +68,7 @@ same_length c = search rules
 returns : tie.Need-returns
 returns c =
     let g = c.before.before.before.before.before.before.before.before.before.args in
-    back-law g.n _ c.before.before.before.before.before.before.before.before.before.requires.0 g.j (omega arith) g.full g.w.now _ _ (omega arith) c.before.before.dot-of.ensures
+    back_law g.n _ c.before.before.before.before.before.before.before.before.before.requires.0 g.j (omega arith) g.full g.w.now _ _ (omega arith) c.before.before.dot-of.ensures
 
 pub backward-place-spec : {M : Type 1} → statement M
 backward-place-spec =

@@ -6,7 +6,7 @@ use borrow.Author.Rules.{rules}
 use lib.ListN.{length, length-set}
 use lib.Ieee.{nan}
 use Rattle.leaves.specs.Square.{uppers_of, diagonal}
-use Rattle.leaves.proofs.Squares.{column-end, diagonal-length, uppers_of-length}
+use Rattle.leaves.proofs.Squares.{column_end, diagonal-length, uppers_of-length}
 use Rattle.leaves.proofs.Overs.{over, over_turn, over_end}
 use Rattle.factor.proofs.solve.copy_diagonal.Statement.{statement}
 use Rattle.factor.proofs.solve.copy_diagonal.Tie as tie
@@ -25,7 +25,7 @@ diagonal-at-requires c κs =
     let l = c.before.loop in
     let g = c.before.before.before.before.args in
     let p = c.before.before.before.before.requires in
-    (p.0, (c.loop-test.true, column-end g.n g.square.now p.0 l.k c.loop-test.true))
+    (p.0, (c.loop-test.true, column_end g.n g.square.now p.0 l.k c.loop-test.true))
 
 mul-w : tie.Need-overflow-mul-w invariant-loop decreases-loop
 mul-w c = search rules

@@ -1,7 +1,7 @@
 -- `factor::solve::diagonal_at` meets its contract. Assumes nothing.
 use mathlib.Core.Path.{sym}
 use borrow.Author.Rules.{rules}
-use Rattle.leaves.proofs.Squares.{diagonal-at}
+use Rattle.leaves.proofs.Squares.{diagonal_at}
 use Rattle.factor.proofs.solve.diagonal_at.Statement.{statement}
 use Rattle.factor.proofs.solve.diagonal_at.Tie as tie
 
@@ -18,7 +18,7 @@ shared-slice-read-result : tie.Need-shared-slice-read-result
 shared-slice-read-result c = search rules
 
 returns : tie.Need-returns
-returns c = sym (diagonal-at _ _ c.before.requires.0 _ c.before.requires.1.0)
+returns c = sym (diagonal_at _ _ c.before.requires.0 _ c.before.requires.1.0)
 
 pub diagonal-at-spec : {M : Type 1} → statement M
 diagonal-at-spec =

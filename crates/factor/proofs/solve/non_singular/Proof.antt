@@ -8,8 +8,8 @@ use lib.ListN.{length, drop}
 use lib.Ieee.{of_bits}
 use Rattle.leaves.specs.Square.{uppers_of, diagonal}
 use Rattle.factor.specs.Solve.{no_zero}
-use Rattle.leaves.proofs.Squares.{column-end, diagonal-length, uppers_of-length}
-use Rattle.factor.proofs.Solves.{noZero-stop, noZero-go, noZero-end, singular_few, singular_is}
+use Rattle.leaves.proofs.Squares.{column_end, diagonal-length, uppers_of-length}
+use Rattle.factor.proofs.Solves.{no_zero-stop, no_zero_go, no_zero-end, singular_few, singular_is}
 use Rattle.factor.proofs.solve.non_singular.Statement.{statement}
 use Rattle.factor.proofs.solve.non_singular.Tie as tie
 
@@ -29,7 +29,7 @@ diagonal-at-requires : tie.Need-diagonal-at-requires invariant-loop decreases-lo
 diagonal-at-requires c κs =
     let q = c.before.before.before.before.requires in
     let h : c.before.loop.k < c.before.before.before.before.args.n = omega arith in
-    (q, (h, column-end _ _ q c.before.loop.k h))
+    (q, (h, column_end _ _ q c.before.loop.k h))
 
 returns-2 : tie.Need-returns-2 invariant-loop decreases-loop
 unfolding of_bits
@@ -38,7 +38,7 @@ returns-2 c =
     let k = c.before.before.before.loop.k in
     let us = uppers_of g.n g.square.now in
     let z : length (diagonal us) ≡ g.n = diagonal-length 0 us ∙ uppers_of-length g.n g.square.now in
-    singular_is g.m g.n us false c.before.before.before.loop.invariant.1 (noZero-stop (diagonal us) k (omega arith) _ c.before.diagonal-at.ensures c.if2.true ∙ c.before.before.before.loop.invariant.2)
+    singular_is g.m g.n us false c.before.before.before.loop.invariant.1 (no_zero-stop (diagonal us) k (omega arith) _ c.before.diagonal-at.ensures c.if2.true ∙ c.before.before.before.loop.invariant.2)
 
 add-k : tie.Need-overflow-add-k invariant-loop decreases-loop
 add-k c = search rules
@@ -53,7 +53,7 @@ loop-again c =
     let k = c.before.before.before.loop.k in
     let us = uppers_of g.n g.square.now in
     let z : length (diagonal us) ≡ g.n = diagonal-length 0 us ∙ uppers_of-length g.n g.square.now in
-    (search rules, c.before.before.before.loop.invariant.1, noZero-go (diagonal us) k (omega arith) _ c.before.diagonal-at.ensures c.if2.false ∙ c.before.before.before.loop.invariant.2)
+    (search rules, c.before.before.before.loop.invariant.1, no_zero_go (diagonal us) k (omega arith) _ c.before.diagonal-at.ensures c.if2.false ∙ c.before.before.before.loop.invariant.2)
 
 returns-3 : tie.Need-returns-3 invariant-loop decreases-loop
 returns-3 c =
@@ -61,7 +61,7 @@ returns-3 c =
     let k = c.before.loop.k in
     let us = uppers_of g.n g.square.now in
     let z : length (diagonal us) ≡ g.n = diagonal-length 0 us ∙ uppers_of-length g.n g.square.now in
-    singular_is g.m g.n us true c.before.loop.invariant.1 (noZero-end (diagonal us) k (omega arith) ∙ c.before.loop.invariant.2)
+    singular_is g.m g.n us true c.before.loop.invariant.1 (no_zero-end (diagonal us) k (omega arith) ∙ c.before.loop.invariant.2)
 
 pub non-singular-spec : {M : Type 1} → statement M
 non-singular-spec =

@@ -8,8 +8,8 @@ use lib.ListN.{length, take, drop}
 use lib.Ieee.{of_bits}
 use Rattle.leaves.specs.Square.{uppers_of, diagonal}
 use Rattle.factor.specs.Solve.{rank}
-use Rattle.leaves.proofs.Squares.{column-end}
-use Rattle.factor.proofs.Solves.{top_long, top_at, rank-stop, rank-go, rank-end}
+use Rattle.leaves.proofs.Squares.{column_end}
+use Rattle.factor.proofs.Solves.{top_long, top_at, rank-stop, rank_go, rank-end}
 use Rattle.factor.proofs.solve.rank_of.Statement.{statement}
 use Rattle.factor.proofs.solve.rank_of.Tie as tie
 
@@ -26,7 +26,7 @@ diagonal-at-requires : tie.Need-diagonal-at-requires invariant-loop decreases-lo
 diagonal-at-requires c κs =
     let q = c.before.before.before.requires.0 in
     let h : c.before.loop.k < c.before.before.before.args.n = omega arith in
-    (q, (h, column-end _ _ q c.before.loop.k h))
+    (q, (h, column_end _ _ q c.before.loop.k h))
 
 returns : tie.Need-returns invariant-loop decreases-loop
 unfolding of_bits
@@ -52,7 +52,7 @@ loop-again c =
     let ds = take g.top (diagonal (uppers_of g.n g.square.now)) in
     let h : k < length ds = omega (arith, top_long g.n g.top g.square.now c.before.before.before.before.before.requires.1) in
     let e = top_at g.n g.top k g.square.now _ c.before.before.loop-test.true c.before.diagonal-at.ensures in
-    (search rules, rank-go ds k h _ e c.if1.false ∙ c.before.before.before.loop.invariant.1)
+    (search rules, rank_go ds k h _ e c.if1.false ∙ c.before.before.before.loop.invariant.1)
 
 returns-2 : tie.Need-returns-2 invariant-loop decreases-loop
 returns-2 c =

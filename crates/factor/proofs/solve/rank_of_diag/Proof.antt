@@ -6,7 +6,7 @@ use native.Mathlib.Nat.{zero-add}
 use lib.ListN.{length, drop}
 use lib.Ieee.{of_bits}
 use Rattle.factor.specs.Solve.{rank}
-use Rattle.factor.proofs.Solves.{rank-stop, rank-go, rank-end}
+use Rattle.factor.proofs.Solves.{rank-stop, rank_go, rank-end}
 use Rattle.factor.proofs.solve.rank_of_diag.Statement.{statement}
 use Rattle.factor.proofs.solve.rank_of_diag.Tie as tie
 
@@ -37,7 +37,7 @@ loop-less c = search rules
 
 loop-again : tie.Need-loop-preserved invariant-loop decreases-loop
 unfolding of_bits
-loop-again c = (search rules, rank-go _ c.before.before.before.loop.k c.before.before.loop-test.true _ refl c.if1.false ∙ c.before.before.before.loop.invariant.1)
+loop-again c = (search rules, rank_go _ c.before.before.before.loop.k c.before.before.loop-test.true _ refl c.if1.false ∙ c.before.before.before.loop.invariant.1)
 
 returns-2 : tie.Need-returns-2 invariant-loop decreases-loop
 returns-2 c = rank-end _ c.before.loop.k c.loop-test.false ∙ c.before.loop.invariant.1

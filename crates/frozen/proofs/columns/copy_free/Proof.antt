@@ -8,8 +8,8 @@ use borrow.Author.Rules.{rules}
 use borrow.Rule.Slice.PartMut.{mid_len}
 use lib.ListN.{length, take, drop}
 use lib.Ieee.{Float}
-use Rattle.leaves.proofs.Splices.{lent, splice-length}
-use Rattle.frozen.specs.Frozen.{marks_of, free_count, freeColumns}
+use Rattle.leaves.proofs.Splices.{lent, splice_length}
+use Rattle.frozen.specs.Frozen.{marks_of, free_count, free_columns}
 use Rattle.frozen.proofs.Turns.{next_below}
 use Rattle.frozen.proofs.Runs.{one_less}
 use Rattle.frozen.proofs.Blocks.{column_counted, column_skipped, column_copied, column_passed, columns-end}
@@ -19,7 +19,7 @@ use Rattle.frozen.proofs.columns.copy_free.Tie as tie
 abbrev invariant-loop : tie.invariant-loop
 invariant-loop m n marks src dst₀ x₀ a₀ b₀ left₀ dst x a b left =
     (x < 65536) × (a + left * m ≤ length src) × (b + m * free_count (marks_of left x) ≡ length dst₀) × (length dst ≡ length dst₀)
-    × (take b dst ++ freeColumns m (marks_of left x) (drop a src) ≡ freeColumns m (marks_of n marks) src)
+    × (take b dst ++ free_columns m (marks_of left x) (drop a src) ≡ free_columns m (marks_of n marks) src)
 
 abbrev decreases-loop : tie.decreases-loop
 decreases-loop m n marks src dst₀ x₀ a₀ b₀ left₀ dst x a b left = left
@@ -104,7 +104,7 @@ loop-again c =
       b,
       search rules,
       omega arith,
-      ap length p ∙ (splice-length l.b (l.b + g.m) y l.dst (omega arith) (search rules) ∙ l.invariant.3),
+      ap length p ∙ (splice_length l.b (l.b + g.m) y l.dst (omega arith) (search rules) ∙ l.invariant.3),
       column_copied g.m l.left l.x l.a l.b g.src.now l.dst y _ t w.0.taken (search rules) z d ∙ l.invariant.4,
     ))
     (λ w.

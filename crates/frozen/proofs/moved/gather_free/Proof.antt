@@ -7,22 +7,22 @@ use native.Mathlib.Nat.{zero-add, sub-zero}
 use native.Mathlib.Omega.{arith}
 use borrow.Author.Rules.{rules}
 use lib.ListN.{length, take, drop, length-set}
-use Rattle.frozen.specs.Frozen.{marks_of, free_count, freeOf}
+use Rattle.frozen.specs.Frozen.{marks_of, free_count, free_of}
 use Rattle.frozen.proofs.Turns.{next_below, count_free, count_frozen, some_free}
-use Rattle.frozen.proofs.Moves.{gather-free, gather-frozen, drop_next, gather-short, gather-no-room, gather-end}
+use Rattle.frozen.proofs.Moves.{gather_free, gather_frozen, drop_next, gather_short, gather_no_room, gather-end}
 use Rattle.frozen.proofs.moved.gather_free.Statement.{statement}
 use Rattle.frozen.proofs.moved.gather_free.Tie as tie
 
 abbrev invariant-loop : tie.invariant-loop
 invariant-loop n marks src dst₀ x₀ j₀ k₀ dst x j k =
     (x < 65536) × (k ≤ n) × (length dst ≡ length dst₀) × (j + free_count (marks_of (n - k) x) ≡ free_count (marks_of n marks))
-    × (drop j dst ≡ drop j dst₀) × (take j dst ++ freeOf (marks_of (n - k) x) (drop k src) ≡ freeOf (marks_of n marks) src)
+    × (drop j dst ≡ drop j dst₀) × (take j dst ++ free_of (marks_of (n - k) x) (drop k src) ≡ free_of (marks_of n marks) src)
 
 abbrev decreases-loop : tie.decreases-loop
 decreases-loop n marks src dst₀ x₀ j₀ k₀ dst x j k = n - k
 
 returns : tie.Need-returns invariant-loop decreases-loop
-returns c = let g = c.before.before.before.args in gather-short g.n g.marks g.src.now g.dst.now c.if1.true
+returns c = let g = c.before.before.before.args in gather_short g.n g.marks g.src.now g.dst.now c.if1.true
 
 free-count-requires : tie.Need-free-count-requires invariant-loop decreases-loop
 free-count-requires c κs = search rules
@@ -31,7 +31,7 @@ returns-2 : tie.Need-returns-2 invariant-loop decreases-loop
 returns-2 c =
     let g = c.before.before.before.before.before.args in
     let h : length g.dst.now < free_count (marks_of g.n g.marks) = let e = c.before.free-count.ensures in search rules in
-    gather-no-room g.n g.marks g.src.now g.dst.now c.before.before.if1.false h
+    gather_no_room g.n g.marks g.src.now g.dst.now c.before.before.if1.false h
 
 loop_holds : tie.Need-loop-init invariant-loop decreases-loop
 loop_holds c = (search rules, search rules, refl, rw sub-zero (zero-add _), refl, rw sub-zero refl)
@@ -85,7 +85,7 @@ loop-again c =
       simp length-set l.invariant.2,
       rw (← e) (count_free (g.n - l.k) l.x l.j (omega arith) w.0.taken ∙ l.invariant.3),
       drop_next l.j _ l.dst g.dst.now l.invariant.4,
-      gather-free g.n l.k l.x h g.src.now l.dst l.j w.0.taken p q ∙ l.invariant.5,
+      gather_free g.n l.k l.x h g.src.now l.dst l.j w.0.taken p q ∙ l.invariant.5,
     ))
     (λ w.
     rw (w.1, w.2) (
@@ -94,7 +94,7 @@ loop-again c =
       l.invariant.2,
       rw (← e) (count_frozen (g.n - l.k) l.x l.j (omega arith) w.0.left ∙ l.invariant.3),
       l.invariant.4,
-      gather-frozen g.n l.k l.x h g.src.now l.dst l.j w.0.left p ∙ l.invariant.5,
+      gather_frozen g.n l.k l.x h g.src.now l.dst l.j w.0.left p ∙ l.invariant.5,
     ))
     c.before.if3.branch)
 

@@ -9,7 +9,7 @@ use borrow.Author.Rules.{rules}
 use lib.ListN.{length, take, drop, length-set}
 use Rattle.frozen.specs.Frozen.{marks_of, free_count, merged}
 use Rattle.frozen.proofs.Turns.{next_below, count_free, count_frozen, some_free}
-use Rattle.frozen.proofs.Moves.{merge_free, merge-frozen, merge-short, merge-few, merge-end}
+use Rattle.frozen.proofs.Moves.{merge_free, merge_frozen, merge_short, merge_few, merge_end}
 use Rattle.frozen.proofs.moved.merge_into.Statement.{statement}
 use Rattle.frozen.proofs.moved.merge_into.Tie as tie
 
@@ -22,7 +22,7 @@ abbrev decreases-loop : tie.decreases-loop
 decreases-loop n marks src dst₀ x₀ j₀ k₀ dst x j k = n - k
 
 returns : tie.Need-returns invariant-loop decreases-loop
-returns c = let g = c.before.before.before.args in merge-short g.n g.marks g.src.now g.dst.now c.if1.true
+returns c = let g = c.before.before.before.args in merge_short g.n g.marks g.src.now g.dst.now c.if1.true
 
 free-count-requires : tie.Need-free-count-requires invariant-loop decreases-loop
 free-count-requires c κs = search rules
@@ -31,7 +31,7 @@ returns-2 : tie.Need-returns-2 invariant-loop decreases-loop
 returns-2 c =
     let g = c.before.before.before.before.before.args in
     let h : length g.src.now < free_count (marks_of g.n g.marks) = let e = c.before.free-count.ensures in search rules in
-    merge-few g.n g.marks g.src.now g.dst.now c.before.before.if1.false h
+    merge_few g.n g.marks g.src.now g.dst.now c.before.before.if1.false h
 
 loop_holds : tie.Need-loop-init invariant-loop decreases-loop
 loop_holds c = (search rules, search rules, refl, rw sub-zero (zero-add _), rw sub-zero refl)
@@ -92,7 +92,7 @@ loop-again c =
       search rules,
       l.invariant.2,
       rw (← e) (count_frozen (g.n - l.k) l.x l.j (omega arith) w.0.left ∙ l.invariant.3),
-      merge-frozen g.n l.k l.x h g.src.now l.dst l.j w.0.left p ∙ l.invariant.4,
+      merge_frozen g.n l.k l.x h g.src.now l.dst l.j w.0.left p ∙ l.invariant.4,
     ))
     c.before.if3.branch)
 
@@ -104,7 +104,7 @@ returns-3 c =
     let g = c.before.before.before.before.before.before.before.args in
     let l = c.before.loop in
     let e = c.before.before.before.free-count.ensures in
-    merge-end g.n g.marks g.src.now g.dst.now l.dst l.k l.x l.j c.loop-test.false c.before.before.before.before.if1.false (omega arith) l.invariant.4
+    merge_end g.n g.marks g.src.now g.dst.now l.dst l.k l.x l.j c.loop-test.false c.before.before.before.before.if1.false (omega arith) l.invariant.4
 
 pub merge-into-spec : {M : Type 1} → statement M
 merge-into-spec =

@@ -7,7 +7,7 @@ use native.Mathlib.Omega.{arith}
 use borrow.Author.Rules.{rules}
 use lib.ListN.{length, take, drop}
 use borrow.Rule.Slice.PartMut.{mid_len}
-use Rattle.leaves.proofs.Splices.{lent, splice-length}
+use Rattle.leaves.proofs.Splices.{lent, splice_length}
 use Rattle.frozen.specs.Narrowed.{runs}
 use Rattle.frozen.proofs.Runs.{one_less, runs_turn, runs-end}
 use Rattle.frozen.proofs.narrow.copy_runs.Statement.{statement}
@@ -88,7 +88,7 @@ loop-again c =
     let p = lent l.b (l.b + g.w) y l.dst (omega arith) in (
       search rules,
       search rules,
-      ap length p ∙ (splice-length l.b (l.b + g.w) y l.dst (omega arith) (search rules) ∙ l.invariant.2),
+      ap length p ∙ (splice_length l.b (l.b + g.w) y l.dst (omega arith) (search rules) ∙ l.invariant.2),
       runs_turn g.w g.apart l.left l.a l.b g.src.now l.dst y _ t (search rules) z d ∙ l.invariant.3,
     )
 

@@ -7,7 +7,7 @@ use native.Mathlib.Omega.{arith}
 use borrow.Author.Rules.{rules}
 use borrow.Rule.Slice.PartMut.{mid_len}
 use lib.ListN.{length, take, drop}
-use Rattle.leaves.proofs.Splices.{lent, splice-length}
+use Rattle.leaves.proofs.Splices.{lent, splice_length}
 use Rattle.leaves.specs.Square.{zeros}
 use Rattle.frozen.specs.Narrowed.{spread}
 use Rattle.frozen.proofs.Runs.{one_less}
@@ -94,7 +94,7 @@ loop-again c =
     let p = lent l.b (l.b + g.apart) y l.dst (omega arith) in (
       search rules,
       search rules,
-      ap length p ∙ (splice-length l.b (l.b + g.apart) y l.dst (omega arith) (search rules) ∙ l.invariant.2),
+      ap length p ∙ (splice_length l.b (l.b + g.apart) y l.dst (omega arith) (search rules) ∙ l.invariant.2),
       spread_turn g.w g.apart l.left l.a l.b g.src.now l.dst y _ t (search rules) z d ∙ l.invariant.3,
     )
 

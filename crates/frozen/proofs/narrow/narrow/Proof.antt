@@ -6,7 +6,7 @@ use native.Mathlib.Omega.{arith}
 use borrow.Author.Rules.{rules}
 use lib.ListN.{length, length-take, length-drop, length-append}
 use Rattle.leaves.proofs.Insides.{inside, square_small}
-use Rattle.frozen.proofs.Runs.{runs-length, narrow-n, narrow-free, narrow-wider, narrow-store, narrow-small, narrow-laid}
+use Rattle.frozen.proofs.Runs.{runs-length, narrow_n, narrow_free, narrow_wider, narrow-store, narrow_small, narrow_laid}
 use Rattle.frozen.proofs.narrow.narrow.Statement.{statement}
 use Rattle.frozen.proofs.narrow.narrow.Tie as tie
 
@@ -14,16 +14,16 @@ outside-requires : tie.Need-outside-requires
 outside-requires c κs = search rules
 
 returns : tie.Need-returns
-returns c = narrow-n c.before.before.before.before.args.n c.before.before.before.before.args.free c.before.before.before.before.args.store.now c.before.before.before.before.args.small.now (sym c.before.outside.ensures ∙ c.if1.true)
+returns c = narrow_n c.before.before.before.before.args.n c.before.before.before.before.args.free c.before.before.before.before.args.store.now c.before.before.before.before.args.small.now (sym c.before.outside.ensures ∙ c.if1.true)
 
 outside-requires-2 : tie.Need-outside-requires-2
 outside-requires-2 c κs = search rules
 
 returns-2 : tie.Need-returns-2
-returns-2 c = narrow-free c.before.before.before.before.before.before.args.n c.before.before.before.before.before.before.args.free c.before.before.before.before.before.before.args.store.now c.before.before.before.before.before.before.args.small.now (sym c.before.before.before.outside.ensures ∙ c.before.before.if1.false) (sym c.before.outside2.ensures ∙ c.if2.true)
+returns-2 c = narrow_free c.before.before.before.before.before.before.args.n c.before.before.before.before.before.before.args.free c.before.before.before.before.before.before.args.store.now c.before.before.before.before.before.before.args.small.now (sym c.before.before.before.outside.ensures ∙ c.before.before.if1.false) (sym c.before.outside2.ensures ∙ c.if2.true)
 
 returns-3 : tie.Need-returns-3
-returns-3 c = narrow-wider c.before.before.before.before.before.before.before.args.n c.before.before.before.before.before.before.before.args.free c.before.before.before.before.before.before.before.args.store.now c.before.before.before.before.before.before.before.args.small.now (sym c.before.before.before.before.outside.ensures ∙ c.before.before.before.if1.false) (sym c.before.before.outside2.ensures ∙ c.before.if2.false) c.if3.true
+returns-3 c = narrow_wider c.before.before.before.before.before.before.before.args.n c.before.before.before.before.before.before.before.args.free c.before.before.before.before.before.before.before.args.store.now c.before.before.before.before.before.before.before.args.small.now (sym c.before.before.before.before.outside.ensures ∙ c.before.before.before.if1.false) (sym c.before.before.outside2.ensures ∙ c.before.if2.false) c.if3.true
 
 mul-if4 : tie.Need-overflow-mul-if4
 mul-if4 c = let i = inside 1 _ (sym c.before.before.before.before.outside.ensures ∙ c.before.before.before.if1.false) in let q = square_small i in search rules
@@ -47,7 +47,7 @@ add-e : tie.Need-overflow-add-e
 add-e c = let i = inside 1 _ (sym c.before.before.before.outside2.ensures ∙ c.before.before.if2.false) in let q = square_small i in search rules
 
 returns-5 : tie.Need-returns-5
-returns-5 c = narrow-small c.before.before.before.before.before.before.before.before.before.args.n c.before.before.before.before.before.before.before.before.before.args.free c.before.before.before.before.before.before.before.before.before.args.store.now c.before.before.before.before.before.before.before.before.before.args.small.now (sym c.before.before.before.before.before.before.outside.ensures ∙ c.before.before.before.before.before.if1.false) (sym c.before.before.before.before.outside2.ensures ∙ c.before.before.before.if2.false) c.before.before.if3.false c.before.if4.false c.if5.true
+returns-5 c = narrow_small c.before.before.before.before.before.before.before.before.before.args.n c.before.before.before.before.before.before.before.before.before.args.free c.before.before.before.before.before.before.before.before.before.args.store.now c.before.before.before.before.before.before.before.before.before.args.small.now (sym c.before.before.before.before.before.before.outside.ensures ∙ c.before.before.before.before.before.if1.false) (sym c.before.before.before.before.outside2.ensures ∙ c.before.before.before.if2.false) c.before.before.if3.false c.before.if4.false c.if5.true
 
 slice-relend-prefix-copy-runs : tie.Need-slice-relend-prefix-copy-runs
 slice-relend-prefix-copy-runs c = search rules
@@ -103,7 +103,7 @@ same_length c = search rules
 returns-6 : tie.Need-returns-6
 returns-6 c =
     let g = c.before.before.before.before.before.before.before.before.before.before.before.before.before.before.before.before.before.before.args in
-    narrow-laid
+    narrow_laid
     g.n
     g.free
     g.store.now

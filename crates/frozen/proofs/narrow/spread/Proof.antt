@@ -7,7 +7,7 @@ use borrow.Author.Rules.{rules}
 use lib.Ieee.{of_bits}
 use lib.ListN.{length-take}
 use Rattle.leaves.proofs.Insides.{inside, square_small}
-use Rattle.frozen.proofs.Spreads.{spread-n, spread-free, spread-wider, spread-small, spread-store, spread-laid}
+use Rattle.frozen.proofs.Spreads.{spread_n, spread_free, spread_wider, spread_small, spread-store, spread_laid}
 use Rattle.frozen.proofs.narrow.spread.Statement.{statement}
 use Rattle.frozen.proofs.narrow.spread.Tie as tie
 
@@ -15,16 +15,16 @@ outside-requires : tie.Need-outside-requires
 outside-requires c κs = search rules
 
 returns : tie.Need-returns
-returns c = spread-n c.before.before.before.before.args.n c.before.before.before.before.args.free c.before.before.before.before.args.small.now c.before.before.before.before.args.store.now (sym c.before.outside.ensures ∙ c.if1.true)
+returns c = spread_n c.before.before.before.before.args.n c.before.before.before.before.args.free c.before.before.before.before.args.small.now c.before.before.before.before.args.store.now (sym c.before.outside.ensures ∙ c.if1.true)
 
 outside-requires-2 : tie.Need-outside-requires-2
 outside-requires-2 c κs = search rules
 
 returns-2 : tie.Need-returns-2
-returns-2 c = spread-free c.before.before.before.before.before.before.args.n c.before.before.before.before.before.before.args.free c.before.before.before.before.before.before.args.small.now c.before.before.before.before.before.before.args.store.now (sym c.before.before.before.outside.ensures ∙ c.before.before.if1.false) (sym c.before.outside2.ensures ∙ c.if2.true)
+returns-2 c = spread_free c.before.before.before.before.before.before.args.n c.before.before.before.before.before.before.args.free c.before.before.before.before.before.before.args.small.now c.before.before.before.before.before.before.args.store.now (sym c.before.before.before.outside.ensures ∙ c.before.before.if1.false) (sym c.before.outside2.ensures ∙ c.if2.true)
 
 returns-3 : tie.Need-returns-3
-returns-3 c = spread-wider c.before.before.before.before.before.before.before.args.n c.before.before.before.before.before.before.before.args.free c.before.before.before.before.before.before.before.args.small.now c.before.before.before.before.before.before.before.args.store.now (sym c.before.before.before.before.outside.ensures ∙ c.before.before.before.if1.false) (sym c.before.before.outside2.ensures ∙ c.before.if2.false) c.if3.true
+returns-3 c = spread_wider c.before.before.before.before.before.before.before.args.n c.before.before.before.before.before.before.before.args.free c.before.before.before.before.before.before.before.args.small.now c.before.before.before.before.before.before.before.args.store.now (sym c.before.before.before.before.outside.ensures ∙ c.before.before.before.if1.false) (sym c.before.before.outside2.ensures ∙ c.before.if2.false) c.if3.true
 
 mul-p : tie.Need-overflow-mul-p
 mul-p c = let i = inside 1 _ (sym c.before.before.outside2.ensures ∙ c.before.if2.false) in let q = square_small i in search rules
@@ -36,7 +36,7 @@ add-if4 : tie.Need-overflow-add-if4
 add-if4 c = let i = inside 1 _ (sym c.before.before.outside2.ensures ∙ c.before.if2.false) in let q = square_small i in search rules
 
 returns-4 : tie.Need-returns-4
-returns-4 c = spread-small c.before.before.before.before.before.before.before.before.args.n c.before.before.before.before.before.before.before.before.args.free c.before.before.before.before.before.before.before.before.args.small.now c.before.before.before.before.before.before.before.before.args.store.now (sym c.before.before.before.before.before.outside.ensures ∙ c.before.before.before.before.if1.false) (sym c.before.before.before.outside2.ensures ∙ c.before.before.if2.false) c.before.if3.false c.if4.true
+returns-4 c = spread_small c.before.before.before.before.before.before.before.before.args.n c.before.before.before.before.before.before.before.before.args.free c.before.before.before.before.before.before.before.before.args.small.now c.before.before.before.before.before.before.before.before.args.store.now (sym c.before.before.before.before.before.outside.ensures ∙ c.before.before.before.before.if1.false) (sym c.before.before.before.outside2.ensures ∙ c.before.before.if2.false) c.before.if3.false c.if4.true
 
 mul-a : tie.Need-overflow-mul-a
 mul-a c =
@@ -134,7 +134,7 @@ returns-6 : tie.Need-returns-6
 unfolding of_bits
 returns-6 c =
     let g = c.before.before.before.before.before.before.before.before.before.before.before.before.before.before.before.before.before.before.before.before.before.before.args in
-    spread-laid
+    spread_laid
     g.n
     g.free
     g.small.now

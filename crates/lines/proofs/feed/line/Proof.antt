@@ -1,7 +1,7 @@
 -- `lines::feed::line` meets its contract. The measure is what is left of the chunk. Assumes nothing.
 use Rattle.std.proofs.Common.{◌≡◌, ◌-◌, length, drop, refl, rules}
 use Rattle.lines.specs.Feed.{fed_from}
-use Rattle.lines.proofs.feed.Feeding.{fed-stop, fed-go, fed-end}
+use Rattle.lines.proofs.feed.Feeding.{fed_stop, fed_go, fed_end}
 use Rattle.lines.proofs.feed.line.Statement.{statement}
 use Rattle.lines.proofs.feed.line.Tie as tie
 
@@ -26,7 +26,7 @@ same_length c = search rules
 returns : tie.Need-returns invariant-loop decreases-loop
 returns c =
     let l = c.before.before.before.loop in
-    fed-stop _ l.i l.k _ _ c.before.before.loop-test.true c.if1.true l.invariant.1
+    fed_stop _ l.i l.k _ _ c.before.before.loop-test.true c.if1.true l.invariant.1
 
 keep-requires : tie.Need-keep-requires invariant-loop decreases-loop
 keep-requires c κs = search rules
@@ -40,13 +40,13 @@ loop-less c = search rules
 loop-again : tie.Need-loop-preserved invariant-loop decreases-loop
 loop-again c =
     let l = c.before.before.before.before.before.before.before.before.loop in
-    (search rules, fed-go _ l.i l.k _ _ _ _ c.before.before.before.before.before.before.before.loop-test.true c.before.before.before.before.before.if1.false c.wrapping-add-usize.ensures c.before.before.before.keep.ensures l.invariant.1)
+    (search rules, fed_go _ l.i l.k _ _ _ _ c.before.before.before.before.before.before.before.loop-test.true c.before.before.before.before.before.if1.false c.wrapping-add-usize.ensures c.before.before.before.keep.ensures l.invariant.1)
 
 same-length-2 : tie.Need-same-length-2 invariant-loop decreases-loop
 same-length-2 c = search rules
 
 returns-2 : tie.Need-returns-2 invariant-loop decreases-loop
-returns-2 c = let l = c.before.loop in fed-end _ l.i l.k _ _ c.loop-test.false l.invariant.1
+returns-2 c = let l = c.before.loop in fed_end _ l.i l.k _ _ c.loop-test.false l.invariant.1
 
 pub line-spec : {M : Type 1} → statement M
 line-spec =

@@ -3,7 +3,7 @@ use Rattle.std.proofs.Common.{◌≡◌, ◌-◌, ◌≤◌, length, rules}
 use borrow.Author.Tests.{not-true, not-false}
 use Rattle.lines.specs.Scan.{rest_from, doubles_at}
 use Rattle.lines.proofs.Parts.{part}
-use Rattle.lines.proofs.scan.Scanning.{nothing, too_many, rest-start, rest-stop, rest-go, rest_end}
+use Rattle.lines.proofs.scan.Scanning.{nothing, too_many, rest_start, rest_stop, rest_go, rest_end}
 use Rattle.lines.proofs.scan.doubles.Statement.{statement}
 use Rattle.lines.proofs.scan.doubles.Tie as tie
 
@@ -20,7 +20,7 @@ returns : tie.Need-returns invariant-loop decreases-loop
 returns c = (too_many _ _ _ _ _ c.bad.ensures c.before.if1.true, nothing _ _ _ _ c.bad.ensures)
 
 loop_holds : tie.Need-loop-init invariant-loop decreases-loop
-loop_holds c = (search rules, search rules, rest-start _ _ _ _ c.if1.false)
+loop_holds c = (search rules, search rules, rest_start _ _ _ _ c.if1.false)
 
 word-requires : tie.Need-word-requires invariant-loop decreases-loop
 word-requires c κs = search rules
@@ -34,7 +34,7 @@ same_length c = search rules
 returns-2 : tie.Need-returns-2 invariant-loop decreases-loop
 returns-2 c =
     let l = c.before.before.before.before.before.loop in (
-      rest-stop _ _ _ l.i l.next _ _ _ _ c.before.before.before.before.loop-test.true c.before.before.before.word.ensures (not-true _ c.before.if2.true) c.bad2.ensures l.invariant.2,
+      rest_stop _ _ _ l.i l.next _ _ _ _ c.before.before.before.before.loop-test.true c.before.before.before.word.ensures (not-true _ c.before.if2.true) c.bad2.ensures l.invariant.2,
       nothing _ _ _ _ c.bad2.ensures,
     )
 
@@ -56,7 +56,7 @@ loop-less c = search rules
 loop-again : tie.Need-loop-preserved invariant-loop decreases-loop
 loop-again c =
     let l = c.before.before.before.before.before.loop in
-    (search rules, search rules, rest-go _ _ _ l.i l.next _ _ _ _ c.before.before.before.before.loop-test.true c.before.before.before.word.ensures (not-false _ c.before.if2.false) c.of-bits.ensures l.invariant.2)
+    (search rules, search rules, rest_go _ _ _ l.i l.next _ _ _ _ c.before.before.before.before.loop-test.true c.before.before.before.word.ensures (not-false _ c.before.if2.false) c.of-bits.ensures l.invariant.2)
 
 same-length-2 : tie.Need-same-length-2 invariant-loop decreases-loop
 same-length-2 c = search rules

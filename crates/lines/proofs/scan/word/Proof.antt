@@ -1,5 +1,5 @@
 -- `lines::scan::word` meets its contract. Assumes nothing.
-use Rattle.lines.proofs.scan.Scanning.{word_is, word-not}
+use Rattle.lines.proofs.scan.Scanning.{word_is, word_not}
 use Rattle.std.proofs.Common.{rules}
 use Rattle.lines.proofs.scan.word.Statement.{statement}
 use Rattle.lines.proofs.scan.word.Tie as tie
@@ -20,7 +20,7 @@ returns : tie.Need-returns
 returns c = word_is _ _ _ _ _ c.before.before.before.before.number.ensures c.before.before.r.given.1 c.past-space.ensures
 
 returns-2 : tie.Need-returns-2
-returns-2 c = word-not _ _ _ c.before.before.number.ensures c.enum_told.given.1
+returns-2 c = word_not _ _ _ c.before.before.number.ensures c.enum_told.given.1
 
 pub word-spec : {M : Type 1} → statement M
 word-spec =

@@ -7,10 +7,10 @@ use mathlib.Core.Logic.{⊎_elim}
 use lib.ListN.{take, drop}
 use lib.Ieee.{of_bits}
 use Rattle.leaves.specs.Square.{uppers_of}
-use Rattle.leaves.proofs.Squares.{column-end}
+use Rattle.leaves.proofs.Squares.{column_end}
 use Rattle.factor.specs.Solve.{gather}
 use Rattle.measures.specs.Gradient.{measures, above}
-use Rattle.measures.proofs.gradient.Gradients.{above-skip, above-eight, above-yes, above_more, above_none, measures-end}
+use Rattle.measures.proofs.gradient.Gradients.{above_skip, above_eight, above_yes, above_more, above_none, measures-end}
 use Rattle.measures.proofs.gradient.above_of.Statement.{statement}
 use Rattle.measures.proofs.gradient.above_of.Tie as tie
 
@@ -40,7 +40,7 @@ measure-requires c κs =
     let g = c.before.before.before.before.before.before.before.before.before in
     let l = c.before.before.before.before.loop in
     let h = c.before.before.before.loop-test.true in
-    (g.requires.0, ((h, column-end g.args.n g.args.square.now g.requires.0 l.j h), g.requires.1.0.0))
+    (g.requires.0, ((h, column_end g.args.n g.args.square.now g.requires.0 l.j h), g.requires.1.0.0))
 
 is-finite-requires : tie.Need-is-finite-requires invariant-loop decreases-loop
 is-finite-requires c κs = search rules
@@ -50,14 +50,14 @@ unfolding of_bits
 returns c =
     let g = c.before.before.before.before.before.before.before.before.before.before.before.before in
     let l = c.before.before.before.before.before.before.before.loop in
-    above-eight g.args.b.now g.args.n g.args.square.now g.args.order.now g.args.norms.now g.requires.0 l.j c.before.before.before.before.before.before.loop-test.true g.requires.1.1.0 g.args.limit _ c.before.before.before.if1.true c.before.before.measure.ensures (sym c.before.is_finite.ensures ∙ not-true _ c.if2.true) ∙ l.invariant.1
+    above_eight g.args.b.now g.args.n g.args.square.now g.args.order.now g.args.norms.now g.requires.0 l.j c.before.before.before.before.before.before.loop-test.true g.requires.1.1.0 g.args.limit _ c.before.before.before.if1.true c.before.before.measure.ensures (sym c.before.is_finite.ensures ∙ not-true _ c.if2.true) ∙ l.invariant.1
 
 returns-2 : tie.Need-returns-2 invariant-loop decreases-loop
 unfolding of_bits
 returns-2 c =
     let g = c.before.before.before.before.before.before.before.before.before.before.before.before.before in
     let l = c.before.before.before.before.before.before.before.before.loop in
-    above-yes g.args.b.now g.args.n g.args.square.now g.args.order.now g.args.norms.now g.requires.0 l.j c.before.before.before.before.before.before.before.loop-test.true g.requires.1.1.0 g.args.limit _ c.before.before.before.before.if1.true c.before.before.before.measure.ensures (sym c.before.before.is_finite.ensures ∙ not-false _ c.before.if2.false) c.if3.true ∙ l.invariant.1
+    above_yes g.args.b.now g.args.n g.args.square.now g.args.order.now g.args.norms.now g.requires.0 l.j c.before.before.before.before.before.before.before.loop-test.true g.requires.1.1.0 g.args.limit _ c.before.before.before.before.if1.true c.before.before.before.measure.ensures (sym c.before.before.is_finite.ensures ∙ not-false _ c.before.if2.false) c.if3.true ∙ l.invariant.1
 
 add-j : tie.Need-overflow-add-j invariant-loop decreases-loop
 add-j c = search rules
@@ -73,7 +73,7 @@ loop-again c =
     let h = c.before.before.before.loop-test.true in
     ⊎_elim
     (λ w. (search rules, above_more g.args.b.now g.args.n g.args.square.now g.args.order.now g.args.norms.now g.requires.0 l.j h g.requires.1.1.0 g.args.limit _ w.0.taken w.1.ensures (sym w.2.ensures ∙ not-false _ w.3.left) w.4.left ∙ l.invariant.1))
-    (λ w. (search rules, above-skip g.args.b.now g.args.n g.args.square.now g.args.order.now g.args.norms.now g.requires.0 l.j h g.requires.1.1.0 g.args.limit w.left ∙ l.invariant.1))
+    (λ w. (search rules, above_skip g.args.b.now g.args.n g.args.square.now g.args.order.now g.args.norms.now g.requires.0 l.j h g.requires.1.1.0 g.args.limit w.left ∙ l.invariant.1))
     c.if1.branch
 
 returns-3 : tie.Need-returns-3 invariant-loop decreases-loop

@@ -5,7 +5,7 @@ use native.Mathlib.Omega.{arith}
 use borrow.Author.Rules.{rules}
 use lib.ListN.{length, take, drop}
 use Rattle.leaves.specs.Square.{uppers_of}
-use Rattle.leaves.proofs.Squares.{uppers_of-length, column-end}
+use Rattle.leaves.proofs.Squares.{uppers_of-length, column_end}
 use Rattle.factor.specs.Solve.{gather}
 use Rattle.measures.specs.Gradient.{combined}
 use Rattle.measures.proofs.gradient.Gradients.{combined_turn, combined-end}
@@ -38,7 +38,7 @@ add-column-requires c κs =
     let g = c.before.before.before.before.before.before.before.before.before in
     let l = c.before.before.before.before.loop in
     let h = c.before.before.before.loop-test.true in
-    (g.requires.0, ((h, column-end g.args.n g.args.square.now g.requires.0 l.i h), l.invariant.1 ∙ g.requires.1.0.1))
+    (g.requires.0, ((h, column_end g.args.n g.args.square.now g.requires.0 l.i h), l.invariant.1 ∙ g.requires.1.0.1))
 
 add-i : tie.Need-overflow-add-i invariant-loop decreases-loop
 add-i c = search rules

@@ -2,7 +2,7 @@
 use mathlib.Core.Path.{ap, ◌∙◌}
 use borrow.Author.Rules.{rules}
 use Rattle.leaves.specs.Product.{divided_by}
-use Rattle.factor.proofs.Copied.{qtb-copied, norms-copied}
+use Rattle.factor.proofs.Copied.{qtb_copied, norms-copied}
 use Rattle.measures.proofs.Measured.{one_inside}
 use Rattle.measures.proofs.gradient.fill_in.Statement.{statement}
 use Rattle.measures.proofs.gradient.fill_in.Tie as tie
@@ -27,7 +27,7 @@ returns c =
     let g = c.before.before.before.before.before.before.before.before.before.before.before.before.before.before.before.args in
     let p = c.before.before.before.before.before.before.before.before.before.before.before.before.before.before.before.requires in
     let i = one_inside p.0.0 p.0.1 in
-    let b = qtb-copied i g.store.now g.b.now p.0.1 p.1.0 c.before.before.before.before.before.before.before.before.before.before.qt_b.ensures in
+    let b = qtb_copied i g.store.now g.b.now p.0.1 p.1.0 c.before.before.before.before.before.before.before.before.before.before.qt_b.ensures in
     (c.before.before.before.before.before.before.divide-all.ensures ∙ ap (divided_by g.bnorm) b, norms-copied i g.store.now g.s.now p.0.1 p.1.1 c.before.before.norms.ensures)
 
 pub fill-in-spec : {M : Type 1} → statement M

@@ -4,7 +4,7 @@ use borrow.Author.Rules.{rules}
 use lib.ListN.{take}
 use lib.Ieee.{of_bits}
 use Rattle.factor.specs.Solve.{gather}
-use Rattle.measures.proofs.gradient.Gradients.{jx-is, jx-seen}
+use Rattle.measures.proofs.gradient.Gradients.{jx_is, jx_seen}
 use Rattle.measures.proofs.gradient.jx_norm.Statement.{statement}
 use Rattle.measures.proofs.gradient.jx_norm.Tie as tie
 
@@ -29,7 +29,7 @@ returns c =
     let xs = gather (take g.args.n g.args.order.now) g.args.x.now in
     let e = c.before.before.before.before.before.before.before.before.fill.ensures in
     let f = c.before.before.before.before.combine.ensures in
-    (c.norm-of.ensures.0 ∙ jx-is g.args.n g.args.square.now xs g.args.w.now g.requires.1.0.1 e f, c.norm-of.ensures.1 ∙ jx-seen g.args.n g.args.square.now xs g.args.w.now g.requires.1.0.1 e f)
+    (c.norm-of.ensures.0 ∙ jx_is g.args.n g.args.square.now xs g.args.w.now g.requires.1.0.1 e f, c.norm-of.ensures.1 ∙ jx_seen g.args.n g.args.square.now xs g.args.w.now g.requires.1.0.1 e f)
 
 pub jx-norm-spec : {M : Type 1} → statement M
 jx-norm-spec =

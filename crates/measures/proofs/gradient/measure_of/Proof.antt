@@ -7,10 +7,10 @@ use lib.ListN.{take, drop}
 use lib.Ieee.{of_bits}
 use Rattle.leaves.specs.Number.{plus_zero}
 use Rattle.leaves.specs.Square.{uppers_of}
-use Rattle.leaves.proofs.Squares.{column-end}
+use Rattle.leaves.proofs.Squares.{column_end}
 use Rattle.factor.specs.Solve.{gather}
 use Rattle.measures.specs.Gradient.{measures, largest}
-use Rattle.measures.proofs.gradient.Gradients.{gradient-skip, gradient-nan, gradient-more, largest_is, largest_not, measures-end}
+use Rattle.measures.proofs.gradient.Gradients.{gradient_skip, gradient_nan, gradient-more, largest_is, largest_not, measures-end}
 use Rattle.measures.proofs.gradient.measure_of.Statement.{statement}
 use Rattle.measures.proofs.gradient.measure_of.Tie as tie
 
@@ -41,14 +41,14 @@ measure-requires c κs =
     let g = c.before.before.before.before.before.before.before.before.before in
     let l = c.before.before.before.before.loop in
     let h = c.before.before.before.loop-test.true in
-    (g.requires.0, ((h, column-end g.args.n g.args.square.now g.requires.0 l.j h), g.requires.1.0.0))
+    (g.requires.0, ((h, column_end g.args.n g.args.square.now g.requires.0 l.j h), g.requires.1.0.0))
 
 returns : tie.Need-returns invariant-loop decreases-loop
 unfolding of_bits
 returns c =
     let g = c.before.before.before.before.before.before.before.before.before.before.before in
     let l = c.before.before.before.before.before.before.loop in
-    gradient-nan g.args.b.now g.args.n g.args.square.now g.args.order.now g.args.norms.now g.requires.0 l.j c.before.before.before.before.before.loop-test.true g.requires.1.1.0 l.top _ c.before.before.if1.true c.before.measure.ensures c.if2.true ∙ l.invariant.1
+    gradient_nan g.args.b.now g.args.n g.args.square.now g.args.order.now g.args.norms.now g.requires.0 l.j c.before.before.before.before.before.loop-test.true g.requires.1.1.0 l.top _ c.before.before.if1.true c.before.measure.ensures c.if2.true ∙ l.invariant.1
 
 max-requires : tie.Need-max-requires invariant-loop decreases-loop
 max-requires c κs = search rules
@@ -67,7 +67,7 @@ loop-again c =
     let h = c.before.before.before.loop-test.true in
     ⊎_elim
     (λ w. (search rules, rw (w.4, w.3.ensures) (gradient-more g.args.b.now g.args.n g.args.square.now g.args.order.now g.args.norms.now g.requires.0 l.j h g.requires.1.1.0 l.top _ w.0.taken w.1.ensures w.2.left ∙ l.invariant.1)))
-    (λ w. (search rules, rw w.1 (gradient-skip g.args.b.now g.args.n g.args.square.now g.args.order.now g.args.norms.now g.requires.0 l.j h g.requires.1.1.0 l.top w.0.left ∙ l.invariant.1)))
+    (λ w. (search rules, rw w.1 (gradient_skip g.args.b.now g.args.n g.args.square.now g.args.order.now g.args.norms.now g.requires.0 l.j h g.requires.1.1.0 l.top w.0.left ∙ l.invariant.1)))
     c.if1.branch
 
 is-finite-requires : tie.Need-is-finite-requires invariant-loop decreases-loop

@@ -5,7 +5,7 @@ use lib.ListN.{length}
 use Rattle.leaves.proofs.Overs.{lent_fits, lent_long}
 use Rattle.factor.proofs.Passed.{passed_sized}
 use Rattle.factor.proofs.Orders.{ordered-below}
-use Rattle.measures.proofs.Measured.{jx_passed, jx-refused, jx-worked}
+use Rattle.measures.proofs.Measured.{jx_passed, jx_refused, jx_worked}
 use Rattle.measures.proofs.measures.a_x_norm.Statement.{statement}
 use Rattle.measures.proofs.measures.a_x_norm.Tie as tie
 
@@ -15,7 +15,7 @@ check-jx-requires c κs = search rules
 returns : tie.Need-returns
 returns c =
     let g = c.before.before.before.before.before.args in
-    jx-refused g.st g.order.now g.x.now g.store.now c.before.check-jx.ensures c.if1.true
+    jx_refused g.st g.order.now g.x.now g.store.now c.before.check-jx.ensures c.if1.true
 
 room16-requires : tie.Need-room16-requires
 room16-requires c κs = search rules
@@ -44,7 +44,7 @@ same_length c = search rules
 returns-2 : tie.Need-returns-2
 returns-2 c =
     let g = c.before.before.before.before.before.before.before.before.before.before.before.before.args in
-    jx-worked g.st g.order.now g.x.now g.store.now c.before.before.before.before.before.before.before.before.check-jx.ensures c.before.before.before.before.before.before.before.if1.false c.before.before.before.jx-in.ensures.0 c.before.before.before.jx-in.ensures.1
+    jx_worked g.st g.order.now g.x.now g.store.now c.before.before.before.before.before.before.before.before.check-jx.ensures c.before.before.before.before.before.before.before.if1.false c.before.before.before.jx-in.ensures.0 c.before.before.before.jx-in.ensures.1
 
 pub a-x-norm-spec : {M : Type 1} → statement M
 a-x-norm-spec =

@@ -9,7 +9,7 @@ use lib.ListN.{length, take, drop, length-take}
 use lib.Seq.{get_or-take}
 use lib.Ieee.{Float, nan, lt}
 use Rattle.measures.specs.Determined.{leading}
-use Rattle.measures.proofs.measures.Determineds.{leading-stop, leading-go, leading_end}
+use Rattle.measures.proofs.measures.Determineds.{leading-stop, leading_go, leading_end}
 use Rattle.measures.proofs.measures.determined_of.Statement.{statement}
 use Rattle.measures.proofs.measures.determined_of.Tie as tie
 
@@ -70,7 +70,7 @@ loop-again c =
     let h : k < length ds = simp length-take (omega (arith, e, c.before.before.before.loop-test.true)) in
     let at = sym (get_or-take g.m g.diag.now k nan (omega (arith, e, c.before.before.before.loop-test.true))) in
     let t = ap (lt l) (sym c.before.abs.ensures) ∙ not-false _ c.if1.false in
-    (search rules, leading-go l ds k h _ at t ∙ c.before.before.before.before.loop.invariant.1)
+    (search rules, leading_go l ds k h _ at t ∙ c.before.before.before.before.loop.invariant.1)
 
 returns-2 : tie.Need-returns-2 invariant-loop decreases-loop
 returns-2 c =

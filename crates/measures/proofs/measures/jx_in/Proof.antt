@@ -5,7 +5,7 @@ use borrow.Author.Rules.{rules}
 use Rattle.factor.proofs.Layouts.{square_of_lem}
 use Rattle.leaves.proofs.Insides.{square_small}
 use Rattle.factor.proofs.Copied.{rested_by_lem}
-use Rattle.measures.proofs.Measured.{one_inside, jx-finite, jx-infinite}
+use Rattle.measures.proofs.Measured.{one_inside, jx_finite, jx_infinite}
 use Rattle.measures.proofs.measures.jx_in.Statement.{statement}
 use Rattle.measures.proofs.measures.jx_in.Tie as tie
 
@@ -49,7 +49,7 @@ returns c =
     let g = c.before.before.before.before.before.before.before.before.before.before.before.before.before.before.before.before.args in
     let p = c.before.before.before.before.before.before.before.before.before.before.before.before.before.before.before.before.requires in
     let i = one_inside p.0.0 p.0.1 in
-    (jx-finite g.n g.store.now g.order.now g.x.now c.before.before.before.before.before.before.before.before.before.jx-norm.ensures.0 c.before.before.before.before.before.before.before.before.before.jx-norm.ensures.1 c.before.before.is_finite.ensures c.before.if1.true, rested_by_lem i g.store.now p.0.1 c.before.before.before.before.before.rest.ensures)
+    (jx_finite g.n g.store.now g.order.now g.x.now c.before.before.before.before.before.before.before.before.before.jx-norm.ensures.0 c.before.before.before.before.before.before.before.before.before.jx-norm.ensures.1 c.before.before.is_finite.ensures c.before.if1.true, rested_by_lem i g.store.now p.0.1 c.before.before.before.before.before.rest.ensures)
 
 same-length-3 : tie.Need-same-length-3
 same-length-3 c = search rules
@@ -62,7 +62,7 @@ returns-2 c =
     let g = c.before.before.before.before.before.before.before.before.before.before.before.before.before.before.before.args in
     let p = c.before.before.before.before.before.before.before.before.before.before.before.before.before.before.before.requires in
     let i = one_inside p.0.0 p.0.1 in
-    (jx-infinite g.n g.store.now g.order.now g.x.now c.before.before.before.before.before.before.before.before.jx-norm.ensures.0 c.before.before.before.before.before.before.before.before.jx-norm.ensures.1 c.before.is_finite.ensures c.if1.false, rested_by_lem i g.store.now p.0.1 c.before.before.before.before.rest.ensures)
+    (jx_infinite g.n g.store.now g.order.now g.x.now c.before.before.before.before.before.before.before.before.jx-norm.ensures.0 c.before.before.before.before.before.before.before.before.jx-norm.ensures.1 c.before.is_finite.ensures c.if1.false, rested_by_lem i g.store.now p.0.1 c.before.before.before.before.rest.ensures)
 
 pub jx-in-spec : {M : Type 1} → statement M
 jx-in-spec =

@@ -4,7 +4,7 @@ use native.Mathlib.Omega.{arith}
 use borrow.Author.Rules.{rules}
 use lib.ListN.{length-take}
 use Rattle.measures.specs.Scaling.{start_by}
-use Rattle.measures.proofs.scaling.Scalings.{first-refused, start-refused, first-given}
+use Rattle.measures.proofs.scaling.Scalings.{first_refused, start-refused, first_given}
 use Rattle.measures.proofs.scaling.first_scaled.Statement.{statement}
 use Rattle.measures.proofs.scaling.first_scaled.Tie as tie
 
@@ -38,7 +38,7 @@ returns c =
     let g = c.before.before.before.before.before.before.before.before.before.before.before.before.before.before.before.before.before.before.before in
     let ed = c.before.before.before.before.before.before.before.before.before.before.before.before.first-scaling.ensures in
     let et = c.before.before.before.start-by.ensures ∙ ap (start_by g.args.bound) c.before.before.before.before.before.before.scaled-norm.ensures.0 in
-    first-refused g.args.n g.args.norms.now g.args.diag.now g.args.x.now g.args.bound g.requires.0.1 ed et c.before.all-finite.ensures c.if1.true
+    first_refused g.args.n g.args.norms.now g.args.diag.now g.args.x.now g.args.bound g.requires.0.1 ed et c.before.all-finite.ensures c.if1.true
 
 is-usable-requires : tie.Need-is-usable-requires
 is-usable-requires c κs = search rules
@@ -82,7 +82,7 @@ returns-3 c =
     let g = c.before.before.before.before.before.before.before.before.before.before.before.before.before.before.before.before.before.before.before.before.before.before.before.before.before.before.before in
     let ed = c.before.before.before.before.before.before.before.before.before.before.before.before.before.before.before.before.before.before.before.before.first-scaling.ensures in
     let et = c.before.before.before.before.before.before.before.before.before.before.before.start-by.ensures ∙ ap (start_by g.args.bound) c.before.before.before.before.before.before.before.before.before.before.before.before.before.before.scaled-norm.ensures.0 in
-    first-given g.args.n g.args.norms.now g.args.diag.now g.args.x.now g.args.bound g.requires.0.1 ed et c.before.before.before.before.before.before.before.before.before.all-finite.ensures _ c.before.before.before.before.before.before.before.before.before.before.before.before.before.before.scaled-norm.ensures.1 c.before.before.before.before.before.before.before.before.if1.false c.before.before.before.before.before.before.before.is-usable.ensures c.before.before.before.before.before.before.if2.false c.before.before.before.copy_of.ensures
+    first_given g.args.n g.args.norms.now g.args.diag.now g.args.x.now g.args.bound g.requires.0.1 ed et c.before.before.before.before.before.before.before.before.before.all-finite.ensures _ c.before.before.before.before.before.before.before.before.before.before.before.before.before.before.scaled-norm.ensures.1 c.before.before.before.before.before.before.before.before.if1.false c.before.before.before.before.before.before.before.is-usable.ensures c.before.before.before.before.before.before.if2.false c.before.before.before.copy_of.ensures
 
 pub first-scaled-spec : {M : Type 1} → statement M
 first-scaled-spec =

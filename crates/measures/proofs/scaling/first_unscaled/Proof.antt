@@ -8,7 +8,7 @@ use Rattle.leaves.specs.Reply.{Reply}
 use Rattle.measures.specs.Rescale.{Scaled}
 use Rattle.measures.specs.Scaling.{start_by}
 use lib.Ieee.{Float}
-use Rattle.measures.proofs.scaling.Scalings.{unscaled-given, unscaled-refused}
+use Rattle.measures.proofs.scaling.Scalings.{unscaled_given, unscaled_refused}
 use Rattle.measures.proofs.scaling.first_unscaled.Statement.{statement}
 use Rattle.measures.proofs.scaling.first_unscaled.Tie as tie
 
@@ -28,13 +28,13 @@ returns : tie.Need-returns
 returns c =
     let g = c.before.before.before.before.before.before.before.args in
     let e = c.before.before.before.start-by.ensures ∙ ap (start_by g.bound) c.before.before.before.before.norm-of.ensures.0 in
-    ap (λ (r : Reply Scaled × List Float). r.0) (unscaled-given g.n [] [] g.x.now g.bound e c.before.before.is-usable.ensures c.before.before.before.before.norm-of.ensures.1 c.before.if1.true)
+    ap (λ (r : Reply Scaled × List Float). r.0) (unscaled_given g.n [] [] g.x.now g.bound e c.before.before.is-usable.ensures c.before.before.before.before.norm-of.ensures.1 c.before.if1.true)
 
 returns-2 : tie.Need-returns-2
 returns-2 c =
     let g = c.before.before.before.before.before.before.args in
     let e = c.before.before.start-by.ensures ∙ ap (start_by g.bound) c.before.before.before.norm-of.ensures.0 in
-    ap (λ (r : Reply Scaled × List Float). r.0) (unscaled-refused g.n [] [] g.x.now g.bound e c.before.is-usable.ensures c.if1.false)
+    ap (λ (r : Reply Scaled × List Float). r.0) (unscaled_refused g.n [] [] g.x.now g.bound e c.before.is-usable.ensures c.if1.false)
 
 pub first-unscaled-spec : {M : Type 1} → statement M
 first-unscaled-spec =

@@ -2,7 +2,7 @@
 use native.Mathlib.Omega.{arith}
 use borrow.Author.Rules.{rules}
 use lib.ListN.{length-take}
-use Rattle.measures.proofs.scaling.Scalings.{later-refused, later-given}
+use Rattle.measures.proofs.scaling.Scalings.{later-refused, later_given}
 use Rattle.measures.proofs.scaling.later_scaled.Statement.{statement}
 use Rattle.measures.proofs.scaling.later_scaled.Tie as tie
 
@@ -57,7 +57,7 @@ same-length-4 c = search rules
 returns-2 : tie.Need-returns-2
 returns-2 c =
     let g = c.before.before.before.before.before.before.before.before.before.before.before.before.before.before.before.before.before.before.before.before.before in
-    later-given g.args.n g.args.norms.now g.args.diag.now g.requires.0 g.requires.2 c.before.before.before.before.before.before.before.before.before.before.before.before.before.before.before.copy_of.ensures c.before.before.before.before.before.before.before.before.before.before.before.later-scaling.ensures c.before.before.before.before.before.before.before.all-finite.ensures _ c.neither.ensures c.before.before.before.before.before.before.if1.false c.before.before.before.copy-of2.ensures
+    later_given g.args.n g.args.norms.now g.args.diag.now g.requires.0 g.requires.2 c.before.before.before.before.before.before.before.before.before.before.before.before.before.before.before.copy_of.ensures c.before.before.before.before.before.before.before.before.before.before.before.later-scaling.ensures c.before.before.before.before.before.before.before.all-finite.ensures _ c.neither.ensures c.before.before.before.before.before.before.if1.false c.before.before.before.copy-of2.ensures
 
 pub later-scaled-spec : {M : Type 1} → statement M
 later-scaled-spec =

@@ -5,7 +5,7 @@ use native.Mathlib.Omega.{arith}
 use borrow.Author.Rules.{rules}
 use lib.ListN.{length, length-take}
 use Rattle.measures.specs.declared.scaling.Mode.{Mode}
-use Rattle.measures.proofs.scaling.Scalings.{first-all, unscaled-all, later-all, kept-all}
+use Rattle.measures.proofs.scaling.Scalings.{first_all, unscaled_all, later_all, kept_all}
 use Rattle.measures.proofs.scaling.rescale.Statement.{statement}
 use Rattle.measures.proofs.scaling.rescale.Tie as tie
 use Rattle.measures.specs.inner.Reads.{parameters_read}
@@ -80,12 +80,12 @@ same_length c = search rules
 returns : tie.Need-returns
 returns c =
     let g = c.before.before.before.before.before.before.before.before.before.before.before.before.before.before.before.args in
-    first-all g.n g.norms.now g.diag.now g.x.now g.bound c.before.before.before.before.before.before.before.before.enum_told.given.1 c.before.before.before.before.first-scaled.ensures
+    first_all g.n g.norms.now g.diag.now g.x.now g.bound c.before.before.before.before.before.before.before.before.enum_told.given.1 c.before.before.before.before.first-scaled.ensures
 
 returns-2 : tie.Need-returns-2
 returns-2 c =
     let g = c.before.before.before.before.before.before.before.before.args in
-    unscaled-all g.n g.norms.now g.diag.now g.x.now g.bound _ c.before.enum-told2.given.1 c.first-unscaled.ensures
+    unscaled_all g.n g.norms.now g.diag.now g.x.now g.bound _ c.before.enum-told2.given.1 c.first-unscaled.ensures
 
 same-length-2 : tie.Need-same-length-2
 same-length-2 c = search rules
@@ -93,12 +93,12 @@ same-length-2 c = search rules
 returns-3 : tie.Need-returns-3
 returns-3 c =
     let g = c.before.before.before.before.before.before.before.before.before.before.before.before.before.args in
-    later-all g.n g.norms.now g.diag.now g.x.now g.bound c.before.before.before.before.before.before.enum-told3.given.1 c.before.before.before.later-scaled.ensures
+    later_all g.n g.norms.now g.diag.now g.x.now g.bound c.before.before.before.before.before.before.enum-told3.given.1 c.before.before.before.later-scaled.ensures
 
 returns-4 : tie.Need-returns-4
 returns-4 c =
     let g = c.before.before.before.before.before.before.before.before.args in
-    kept-all g.n g.norms.now g.diag.now g.x.now g.bound c.neither.ensures c.before.enum-told4.given.1
+    kept_all g.n g.norms.now g.diag.now g.x.now g.bound c.neither.ensures c.before.enum-told4.given.1
 
 pub rescale-spec : {M : Type 1} → statement M
 rescale-spec =

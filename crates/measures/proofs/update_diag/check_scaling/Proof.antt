@@ -1,6 +1,6 @@
 -- `measures::update_diag::check_scaling` meets its contract. Assumes nothing.
 use borrow.Author.Rules.{rules}
-use Rattle.measures.proofs.update_diag.Rescaled.{first-scaled-tests, first-unscaled-tests, later-scaled-tests, later-unscaled-tests}
+use Rattle.measures.proofs.update_diag.Rescaled.{first_scaled_tests, first_unscaled_tests, later_scaled_tests, later_unscaled_tests}
 use Rattle.measures.proofs.update_diag.check_scaling.Statement.{statement}
 use Rattle.measures.proofs.update_diag.check_scaling.Tie as tie
 
@@ -31,22 +31,22 @@ room-requires c κs = search rules
 returns : tie.Need-returns
 returns c =
     let g = c.before.before.before.before.before.args in
-    first-scaled-tests g.st g.store g.diag.now g.x.now g.bound c.before.enum_told.given.1 c.check-first.ensures
+    first_scaled_tests g.st g.store g.diag.now g.x.now g.bound c.before.enum_told.given.1 c.check-first.ensures
 
 returns-2 : tie.Need-returns-2
 returns-2 c =
     let g = c.before.before.before.before.before.args in
-    first-unscaled-tests g.st g.store g.diag.now g.x.now g.bound c.before.enum-told2.given.1 c.check-first2.ensures
+    first_unscaled_tests g.st g.store g.diag.now g.x.now g.bound c.before.enum-told2.given.1 c.check-first2.ensures
 
 returns-3 : tie.Need-returns-3
 returns-3 c =
     let g = c.before.before.before.before.before.args in
-    later-scaled-tests g.st g.store g.diag.now g.x.now g.bound c.before.enum-told3.given.1 c.check-later.ensures
+    later_scaled_tests g.st g.store g.diag.now g.x.now g.bound c.before.enum-told3.given.1 c.check-later.ensures
 
 returns-4 : tie.Need-returns-4
 returns-4 c =
     let g = c.before.before.before.before.before.args in
-    later-unscaled-tests g.st g.store g.diag.now g.x.now g.bound c.before.enum-told4.given.1 c.room.ensures
+    later_unscaled_tests g.st g.store g.diag.now g.x.now g.bound c.before.enum-told4.given.1 c.room.ensures
 
 pub check-scaling-spec : {M : Type 1} → statement M
 check-scaling-spec =

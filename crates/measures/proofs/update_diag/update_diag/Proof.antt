@@ -4,7 +4,7 @@ use borrow.Author.Rules.{rules}
 use lib.ListN.{length}
 use Rattle.leaves.proofs.Overs.{lent_fits, lent_long}
 use Rattle.factor.proofs.Passed.{passed_sized}
-use Rattle.measures.proofs.update_diag.Rescaled.{scaling_passed, scaling-refused, scaling-worked}
+use Rattle.measures.proofs.update_diag.Rescaled.{scaling_passed, scaling_refused, scaling_worked}
 use Rattle.measures.proofs.update_diag.update_diag.Statement.{statement}
 use Rattle.measures.proofs.update_diag.update_diag.Tie as tie
 
@@ -17,7 +17,7 @@ same_length c = search rules
 returns : tie.Need-returns
 returns c =
     let g = c.before.before.before.before.before.before.args in
-    scaling-refused g.st g.mode g.diag.now g.x.now g.bound g.store.now c.before.check-scaling.ensures c.if1.true
+    scaling_refused g.st g.mode g.diag.now g.x.now g.bound g.store.now c.before.check-scaling.ensures c.if1.true
 
 room16-requires : tie.Need-room16-requires
 room16-requires c κs = search rules
@@ -49,7 +49,7 @@ same-length-3 c = search rules
 returns-2 : tie.Need-returns-2
 returns-2 c =
     let g = c.before.before.before.before.before.before.before.before.before.before.before.before.before.before.before.before.args in
-    scaling-worked g.st g.mode g.diag.now g.x.now g.bound g.store.now c.before.before.before.before.before.before.before.before.before.before.before.check-scaling.ensures c.before.before.before.before.before.before.before.before.before.before.if1.false c.before.before.before.before.before.rescale-in.ensures.0 c.before.before.before.before.before.rescale-in.ensures.1
+    scaling_worked g.st g.mode g.diag.now g.x.now g.bound g.store.now c.before.before.before.before.before.before.before.before.before.before.before.check-scaling.ensures c.before.before.before.before.before.before.before.before.before.before.if1.false c.before.before.before.before.before.rescale-in.ensures.0 c.before.before.before.before.before.rescale-in.ensures.1
 
 pub update-diag-spec : {M : Type 1} → statement M
 update-diag-spec =

@@ -10,7 +10,7 @@ use Rattle.leaves.specs.Tests.{first_of}
 use Rattle.leaves.proofs.Insides.{one_row}
 use Rattle.leaves.proofs.Refusals.{stopped, went_to, past, none_left, test_met}
 use Rattle.calls.specs.Tests.{form_test, free_test}
-use Rattle.packing.proofs.Lents.{lent_tests, lent, form-met, form-passed}
+use Rattle.packing.proofs.Lents.{lent_tests, lent, form_met, form_passed}
 use Rattle.packing.proofs.check.check_pack.Statement.{statement}
 use Rattle.packing.proofs.check.check_pack.Tie as tie
 
@@ -42,7 +42,7 @@ returns-2 c =
     let z = c.before.before.if1.false in
     let p = lent g.st g.store (min (length g.order.now) g.places) g.room (sym e ∙ z) in
     let l = p.each_long in
-    let h = form-met g.st.n g.st.marks g.order.now (one_row p.sizes) p.none_past (omega arith) (λ x. c.if2.true (c.before.form.ensures ∙ x)) in
+    let h = form_met g.st.n g.st.marks g.order.now (one_row p.sizes) p.none_past (omega arith) (λ x. c.if2.true (c.before.form.ensures ∙ x)) in
     went_to ts (t ∷ f ∷ []) refl e z (sym (test_met t (f ∷ []) h))
 
 free-count-requires : tie.Need-free-count-requires
@@ -58,7 +58,7 @@ returns-3 c =
     let z = c.before.before.before.before.if1.false in
     let p = lent g.st g.store (min (length g.order.now) g.places) g.room (sym e ∙ z) in
     let l = p.each_long in
-    let h = form-passed g.st.n g.st.marks g.order.now (one_row p.sizes) p.none_past (omega arith) (sym c.before.before.before.form.ensures ∙ c.before.before.if2.false) in
+    let h = form_passed g.st.n g.st.marks g.order.now (one_row p.sizes) p.none_past (omega arith) (sym c.before.before.before.form.ensures ∙ c.before.before.if2.false) in
     went_to ts (t ∷ f ∷ []) refl e z (past t (f ∷ []) h (sym (test_met f [] (eq-eqb _ 0 (sym c.before.free-count.ensures ∙ c.if3.true)))))
 
 returns-4 : tie.Need-returns-4
@@ -71,7 +71,7 @@ returns-4 c =
     let z = c.before.before.before.before.if1.false in
     let p = lent g.st g.store (min (length g.order.now) g.places) g.room (sym e ∙ z) in
     let l = p.each_long in
-    let h = form-passed g.st.n g.st.marks g.order.now (one_row p.sizes) p.none_past (omega arith) (sym c.before.before.before.form.ensures ∙ c.before.before.if2.false) in
+    let h = form_passed g.st.n g.st.marks g.order.now (one_row p.sizes) p.none_past (omega arith) (sym c.before.before.before.form.ensures ∙ c.before.before.if2.false) in
     went_to ts (t ∷ f ∷ []) refl e z (past t (f ∷ []) h (past f [] (ne_eqb _ 0 (λ x. c.if3.false (c.before.free-count.ensures ∙ x))) none_left))
 
 pub check-pack-spec : {M : Type 1} → statement M

@@ -13,7 +13,7 @@ use Rattle.leaves.proofs.Insides.{one_row}
 use Rattle.leaves.proofs.Refusals.{stopped, went_to, past, none_left, test_met}
 use Rattle.calls.specs.Tests.{form_test, free_test}
 use Rattle.packing.specs.Packing.{pack_need}
-use Rattle.packing.proofs.Lents.{lent_tests, lent, form-met, form-passed, finite_test}
+use Rattle.packing.proofs.Lents.{lent_tests, lent, form_met, form_passed, finite_test}
 use Rattle.packing.proofs.check.check_unpack.Statement.{statement}
 use Rattle.packing.proofs.check.check_unpack.Tie as tie
 
@@ -47,7 +47,7 @@ returns-2 c =
     let z = c.before.before.if1.false in
     let p = lent g.st g.store (min g.order (length g.places.now)) (length g.room.now) (sym e ∙ z) in
     let l = p.each_long in
-    let h = form-met g.st.n g.st.marks g.places.now (one_row p.sizes) p.none_past (omega arith) (λ x. c.if2.true (c.before.form.ensures ∙ x)) in
+    let h = form_met g.st.n g.st.marks g.places.now (one_row p.sizes) p.none_past (omega arith) (λ x. c.if2.true (c.before.form.ensures ∙ x)) in
     went_to ts (t ∷ u ∷ f ∷ []) refl e z (sym (test_met t (u ∷ f ∷ []) h))
 
 pack-need-requires : tie.Need-pack-need-requires
@@ -84,7 +84,7 @@ returns-3 c =
     let z = c.before.before.before.before.before.before.if1.false in
     let p = lent g.st g.store (min g.order (length g.places.now)) (length g.room.now) (sym e ∙ z) in
     let l = p.each_long in
-    let h = form-passed g.st.n g.st.marks g.places.now (one_row p.sizes) p.none_past (omega arith) (sym c.before.before.before.before.before.form.ensures ∙ c.before.before.before.before.if2.false) in
+    let h = form_passed g.st.n g.st.marks g.places.now (one_row p.sizes) p.none_past (omega arith) (sym c.before.before.before.before.before.form.ensures ∙ c.before.before.before.before.if2.false) in
     let a : all_finite (take (pack_need g.st.n) g.room.now) ≡ c.before.all-finite.result = rw (← c.before.before.before.pack-need.ensures) (sym c.before.all-finite.ensures) in
     went_to ts (t ∷ u ∷ f ∷ []) refl e z (past t (u ∷ f ∷ []) h (sym (test_met u (f ∷ []) (ap not a ∙ c.if3.true))))
 
@@ -102,7 +102,7 @@ returns-4 c =
     let z = c.before.before.before.before.before.before.before.before.if1.false in
     let p = lent g.st g.store (min g.order (length g.places.now)) (length g.room.now) (sym e ∙ z) in
     let l = p.each_long in
-    let h = form-passed g.st.n g.st.marks g.places.now (one_row p.sizes) p.none_past (omega arith) (sym c.before.before.before.before.before.before.before.form.ensures ∙ c.before.before.before.before.before.before.if2.false) in
+    let h = form_passed g.st.n g.st.marks g.places.now (one_row p.sizes) p.none_past (omega arith) (sym c.before.before.before.before.before.before.before.form.ensures ∙ c.before.before.before.before.before.before.if2.false) in
     let a : all_finite (take (pack_need g.st.n) g.room.now) ≡ c.before.before.before.all-finite.result = rw (← c.before.before.before.before.before.pack-need.ensures) (sym c.before.before.before.all-finite.ensures) in
     went_to ts (t ∷ u ∷ f ∷ []) refl e z
     (past t (u ∷ f ∷ []) h (past u (f ∷ []) (ap not a ∙ c.before.before.if3.false) (sym (test_met f [] (eq-eqb _ 0 (sym c.before.free-count.ensures ∙ c.if4.true))))))
@@ -118,7 +118,7 @@ returns-5 c =
     let z = c.before.before.before.before.before.before.before.before.if1.false in
     let p = lent g.st g.store (min g.order (length g.places.now)) (length g.room.now) (sym e ∙ z) in
     let l = p.each_long in
-    let h = form-passed g.st.n g.st.marks g.places.now (one_row p.sizes) p.none_past (omega arith) (sym c.before.before.before.before.before.before.before.form.ensures ∙ c.before.before.before.before.before.before.if2.false) in
+    let h = form_passed g.st.n g.st.marks g.places.now (one_row p.sizes) p.none_past (omega arith) (sym c.before.before.before.before.before.before.before.form.ensures ∙ c.before.before.before.before.before.before.if2.false) in
     let a : all_finite (take (pack_need g.st.n) g.room.now) ≡ c.before.before.before.all-finite.result = rw (← c.before.before.before.before.before.pack-need.ensures) (sym c.before.before.before.all-finite.ensures) in
     went_to ts (t ∷ u ∷ f ∷ []) refl e z
     (past t (u ∷ f ∷ []) h (past u (f ∷ []) (ap not a ∙ c.before.before.if3.false) (past f [] (ne_eqb _ 0 (λ x. c.if4.false (c.before.free-count.ensures ∙ x))) none_left)))

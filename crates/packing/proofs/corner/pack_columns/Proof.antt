@@ -9,10 +9,10 @@ use borrow.Rule.Slice.PartMut.{mid_len}
 use lib.ListN.{length, take, drop}
 use Rattle.leaves.specs.Square.{uppers_from, uppers_of}
 use Rattle.leaves.specs.Triangle.{columns}
-use Rattle.leaves.proofs.Splices.{lent, splice-length}
+use Rattle.leaves.proofs.Splices.{lent, splice_length}
 use Rattle.leaves.proofs.Triangles.{column_fits}
 use Rattle.reduce.specs.Reduced.{flat}
-use Rattle.packing.proofs.Corners.{triangle, triangle_next, corner-fits, pack-turn, pack-end}
+use Rattle.packing.proofs.Corners.{triangle, triangle_next, corner-fits, pack_turn, pack-end}
 use Rattle.packing.proofs.corner.pack_columns.Statement.{statement}
 use Rattle.packing.proofs.corner.pack_columns.Tie as tie
 
@@ -152,8 +152,8 @@ loop-again c =
       search rules,
       search rules,
       search rules,
-      ap length p ∙ (splice-length l.b (l.b + l.k + 1) y l.corner (omega arith) (search rules) ∙ l.invariant.3),
-      pack-turn g.n l.k l.a l.b g.square.now l.corner y _ t (search rules) z d ∙ l.invariant.4,
+      ap length p ∙ (splice_length l.b (l.b + l.k + 1) y l.corner (omega arith) (search rules) ∙ l.invariant.3),
+      pack_turn g.n l.k l.a l.b g.square.now l.corner y _ t (search rules) z d ∙ l.invariant.4,
     )
 
 same_length : tie.Need-same-length invariant-loop decreases-loop

@@ -8,12 +8,12 @@ use borrow.Author.Rules.{rules}
 use borrow.Rule.Slice.PartMut.{mid_len}
 use lib.ListN.{length, take, drop}
 use Rattle.leaves.specs.Square.{joined, zeros}
-use Rattle.leaves.proofs.Splices.{lent, splice-length}
+use Rattle.leaves.proofs.Splices.{lent, splice_length}
 use Rattle.leaves.proofs.Triangles.{column_fits}
 use Rattle.frozen.proofs.Spreads.{run_long}
 use Rattle.factor.specs.Factoring.{no_lower}
 use Rattle.packing.specs.Packing.{triangle_from}
-use Rattle.packing.proofs.Corners.{triangle, triangle_next, corner-fits, unpack-turn, unpack-end}
+use Rattle.packing.proofs.Corners.{triangle, triangle_next, corner-fits, unpack_turn, unpack-end}
 use Rattle.packing.proofs.corner.unpack_columns.Statement.{statement}
 use Rattle.packing.proofs.corner.unpack_columns.Tie as tie
 
@@ -142,8 +142,8 @@ loop-again c =
       search rules,
       search rules,
       search rules,
-      ap length p ∙ (splice-length l.a (l.a + g.n) y l.square (omega arith) (search rules) ∙ l.invariant.3),
-      unpack-turn g.n l.k l.a l.b g.corner.now l.square y _ t (search rules) z d ∙ l.invariant.4,
+      ap length p ∙ (splice_length l.a (l.a + g.n) y l.square (omega arith) (search rules) ∙ l.invariant.3),
+      unpack_turn g.n l.k l.a l.b g.corner.now l.square y _ t (search rules) z d ∙ l.invariant.4,
     )
 
 same_length : tie.Need-same-length invariant-loop decreases-loop

@@ -4,7 +4,7 @@ use mathlib.Core.Path.{sym, ◌∙◌}
 use native.Mathlib.Omega.{arith}
 use borrow.Author.Rules.{rules}
 use lib.ListN.{length}
-use Rattle.packing.proofs.Called.{lent_sized, need_long, pack-lent, pack-refused, pack-done}
+use Rattle.packing.proofs.Called.{lent_sized, need_long, pack-lent, pack-refused, pack_done}
 use Rattle.packing.proofs.pack.pack.Statement.{statement}
 use Rattle.packing.proofs.pack.pack.Tie as tie
 
@@ -60,7 +60,7 @@ returns-2 : tie.Need-returns-2
 returns-2 c =
     let g = c.before.before.before.before.before.before.before.before.before.before.before.before.before.before.before.args in
     let e = sym c.before.before.before.before.before.before.before.before.before.before.check-pack.ensures ∙ c.before.before.before.before.before.before.before.before.before.if1.false in
-    pack-done g.st g.store.now g.order.now g.room.now g.places.now c.before.before.before.before.before.before.before.before.pack-need.result _ _ e c.before.before.before.before.before.before.before.before.pack-need.ensures c.before.before.before.before.before.before.pack-in.ensures c.before.before.before.before.before.before.pack-in.auto.1.1.0 c.before.before.place.ensures
+    pack_done g.st g.store.now g.order.now g.room.now g.places.now c.before.before.before.before.before.before.before.before.pack-need.result _ _ e c.before.before.before.before.before.before.before.before.pack-need.ensures c.before.before.before.before.before.before.pack-in.ensures c.before.before.before.before.before.before.pack-in.auto.1.1.0 c.before.before.place.ensures
 
 pub pack-spec : {M : Type 1} → statement M
 pack-spec =

@@ -4,7 +4,7 @@ use mathlib.Core.Path.{sym, ◌∙◌}
 use native.Mathlib.Omega.{arith}
 use borrow.Author.Rules.{rules}
 use lib.ListN.{length}
-use Rattle.packing.proofs.Called.{lent_sized, need_long, unpack-lent, unpack-refused, unpack-done}
+use Rattle.packing.proofs.Called.{lent_sized, need_long, unpack-lent, unpack-refused, unpack_done}
 use Rattle.packing.proofs.unpack.unpack.Statement.{statement}
 use Rattle.packing.proofs.unpack.unpack.Tie as tie
 
@@ -53,7 +53,7 @@ returns-2 : tie.Need-returns-2
 returns-2 c =
     let g = c.before.before.before.before.before.before.before.before.before.before.before.before.before.before.before.before.args in
     let e = sym c.before.before.before.before.before.before.before.before.before.before.before.check-unpack.ensures ∙ c.before.before.before.before.before.before.before.before.before.before.if1.false in
-    unpack-done g.st g.room.now g.places.now g.store.now g.order.now c.before.before.before.before.before.before.before.before.before.pack-need.result _ _ e c.before.before.before.before.before.before.before.before.before.pack-need.ensures c.before.before.before.before.before.before.unpack-in.ensures c.before.before.place.ensures
+    unpack_done g.st g.room.now g.places.now g.store.now g.order.now c.before.before.before.before.before.before.before.before.before.pack-need.result _ _ e c.before.before.before.before.before.before.before.before.before.pack-need.ensures c.before.before.before.before.before.before.unpack-in.ensures c.before.before.place.ensures
 
 pub unpack-spec : {M : Type 1} → statement M
 unpack-spec =

@@ -7,7 +7,7 @@ use lib.Ieee.{of_bits}
 use lib.ListN.{length-take}
 use lib.Seq.{length-take-le}
 use Rattle.packing.proofs.Corners.{triangle}
-use Rattle.packing.proofs.Layings.{unpack-laid}
+use Rattle.packing.proofs.Layings.{unpack_laid}
 use Rattle.packing.proofs.unpack.unpack_in.Statement.{statement}
 use Rattle.packing.proofs.unpack.unpack_in.Tie as tie
 
@@ -106,7 +106,7 @@ returns c =
     let p = c.before.before.before.before.before.before.before.before.before.before.before.before.before.before.before.before.requires in
     let f = p.0.1.fits in
     let l = c.before.before.before.before.before.before.before.before.before.before.before.unpack-columns.auto.1.1.0 ∙ length-take-le (g.n * g.n) g.store.now (omega arith) in
-    unpack-laid g.n g.room.now g.store.now _ _ _ p.0.1 p.1 l c.before.before.before.before.before.before.before.before.before.before.before.unpack-columns.ensures c.before.before.before.before.before.before.copy_of.ensures c.before.before.fill.ensures
+    unpack_laid g.n g.room.now g.store.now _ _ _ p.0.1 p.1 l c.before.before.before.before.before.before.before.before.before.before.before.unpack-columns.ensures c.before.before.before.before.before.before.copy_of.ensures c.before.before.fill.ensures
 
 pub unpack-in-spec : {M : Type 1} → statement M
 unpack-in-spec =

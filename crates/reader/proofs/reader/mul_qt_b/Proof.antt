@@ -121,17 +121,17 @@ module _ {M : Type 1} {𝓤 : Ura M} (𝓛 : Logic 𝓤) (mem : Memory → SProp
   abbrev Passed : Type 0
   Passed = State × (Bor (List Float) × (Bor (List Float) × Unit {0}))
 
-  abbrev given-at : Passed
-  given-at = (d.state, (d.square, (x, tt)))
+  abbrev given_at : Passed
+  given_at = (d.state, (d.square, (x, tt)))
 
   abbrev passed : Vals at.signature κs
   passed = (vst ∷ [], (slice_val d.square.ref_ptr (length d.square.now) ∷ [], (s ∷ [], tt)))
 
   abbrev to : (At 𝓛 mem run).Ghost
-  to = ((κs, (q, (q', tt)), tt, given-at, passed), tt)
+  to = ((κs, (q, (q', tt)), tt, given_at, passed), tt)
 
-  asked : ent 𝓤 (on_entry 𝓛 at.signature κs (q, (q', tt)) given-at passed) ((At 𝓛 mem run).pre to)
-  asked = qed 𝓛 ((‵ (flft κ q) ⊛ ‵ (flft κ' q') ⊛ ‵ ftrue) ∷ ‵ (owns (Q.the_row ∷ ShrSlice (named 0) κ f64 ∷ MutSlice (named 1) κ' f64 ∷ []) given-at passed) ∷ []) ∵ join ! $ frame ! $ done !
+  asked : ent 𝓤 (on_entry 𝓛 at.signature κs (q, (q', tt)) given_at passed) ((At 𝓛 mem run).pre to)
+  asked = qed 𝓛 ((‵ (flft κ q) ⊛ ‵ (flft κ' q') ⊛ ‵ ftrue) ∷ ‵ (owns (Q.the_row ∷ ShrSlice (named 0) κ f64 ∷ MutSlice (named 1) κ' f64 ∷ []) given_at passed) ∷ []) ∵ join ! $ frame ! $ done !
 
   -- what the struct and the output own gives what the callee asks, and the struct's is kept
   apart : Is Q.the_row d.state (vst ∷ []) → ent 𝓤 (on_entry 𝓛 mul.signature κs (q, (q', tt)) a vals) (sep 𝓤 ((At 𝓛 mem run).pre to) (sem 𝓛 Own))
@@ -166,8 +166,8 @@ module _ {M : Type 1} {𝓤 : Ura M} (𝓛 : Logic 𝓤) (mem : Memory → SProp
         assigns ! (agg ! (and_then ! (load ! (from ! (stop !)) (look ! 2 refl)) (and_then ! (load ! (from ! (fld ! refl (stop !))) (look_in ! 8 (sub ! 1 refl (whole !)))) (no_more !)))) (from ! (stop !)) (init ! 0 refl (tt, (tt, (record { fits = room.0 }, tt)))) $
         move ! (14 ∷ []) $ use1 𝓛 (raw ((At 𝓛 mem run).pre to) ⊛ ‵ Own) (apart ps) $ split ! $
         calls_at ! fm (At 𝓛 mem run) known to (and_then ! (load ! (from ! (stop !)) (look ! 8 refl)) (and_then ! (load ! (from ! (stop !)) (look ! 6 refl)) (and_then ! (load ! (from ! (stop !)) (look ! 2 refl)) (no_more !)))) (λ u.
-        use1 𝓛 (later (some (λ (r : Done). ((‵ (flft κ q) ⊛ ‵ (flft κ' q') ⊛ ‵ ftrue) ⊛ ‵ ((S.the_row).own_val r (u ∷ []))) ⊛ raw (ensured 𝓛 at.ended (at.clauses 𝓛 mem run) κs given-at tt r)))) (id⊢ 𝓤 _) $ await ! tt $ pick ! (λ r.
-        split ! $ move ! (1 ∷ []) $ use1 𝓛 (some (λ (zs : Unit {0} × (Unit {0} × (List Float × Unit {0}))). ‵ (lasts at.ended κs given-at zs) ⊛ raw (fact 𝓤 (Said r zs.1.1.0)))) (id⊢ 𝓤 _) $ pick ! (λ zs.
+        use1 𝓛 (later (some (λ (r : Done). ((‵ (flft κ q) ⊛ ‵ (flft κ' q') ⊛ ‵ ftrue) ⊛ ‵ ((S.the_row).own_val r (u ∷ []))) ⊛ raw (ensured 𝓛 at.ended (at.clauses 𝓛 mem run) κs given_at tt r)))) (id⊢ 𝓤 _) $ await ! tt $ pick ! (λ r.
+        split ! $ move ! (1 ∷ []) $ use1 𝓛 (some (λ (zs : Unit {0} × (Unit {0} × (List Float × Unit {0}))). ‵ (lasts at.ended κs given_at zs) ⊛ raw (fact 𝓤 (Said r zs.1.1.0)))) (id⊢ 𝓤 _) $ pick ! (λ zs.
         split ! $ move ! (1 ∷ []) $ heard ! (Said r zs.1.1.0) (λ e. fsplit ! $ move ! (1 ∷ []) $ fsplit ! $ move ! (1 ∷ []) $ fsplit ! $ fsplit ! $ move ! (1 ∷ []) $ feq_l ! (λ l.
         -- [the last list; true; of square; of the state; the tokens and the result; what the struct owns; _6; …]
         move ! (4 ∷ []) $ split ! $ move ! (1 ∷ []) $ peeks ! S.the_row (Is S.the_row) (shows 𝓛 S.the_row) r (u ∷ []) (λ is.
@@ -180,9 +180,9 @@ module _ {M : Type 1} {𝓤 : Ura M} (𝓛 : Logic 𝓤) (mem : Memory → SProp
 module _ {M : Type 1} {𝓤 : Ura M} (𝓛 : Logic 𝓤) (mem : Memory → SProp 𝓤) (run : Routine → Fun 𝓤) where
   open 𝓛 use {H}
 
-  mul-walks : (C : Calls 𝓤 H) (Λ : Loops 𝓤 H) → FmC 𝓤 H 𝓛.laws C → Triple 𝓤 (C #mul-read) (At 𝓛 mem run)
+  mul_walks : (C : Calls 𝓤 H) (Λ : Loops 𝓤 H) → FmC 𝓤 H 𝓛.laws C → Triple 𝓤 (C #mul-read) (At 𝓛 mem run)
       → Walks 𝓛 mul.ended stayed (WpFn 𝓤 H C Λ code.function) (mul.clauses 𝓛 mem run)
-  mul-walks C Λ fm known = walked 𝓛 mul.ended stayed (mul.clauses 𝓛 mem run) (WpFn 𝓤 H C Λ code.function) (λ κs. (LL.vals (D κs) (L κs), (mut_slice_vals, tt))) (λ κs. (LL.tells (D κs) (L κs), (mut_slice_Tells (named 1) κs.1.0 f64, tt)))
+  mul_walks C Λ fm known = walked 𝓛 mul.ended stayed (mul.clauses 𝓛 mem run) (WpFn 𝓤 H C Λ code.function) (λ κs. (LL.vals (D κs) (L κs), (mut_slice_vals, tt))) (λ κs. (LL.tells (D κs) (L κs), (mut_slice_Tells (named 1) κs.1.0 f64, tt)))
       (λ κs qs bounds a g are. via 𝓤 _ (fst∗ 𝓤 _ (emp 𝓤)) (walk 𝓛 mem run κs.0 κs.1.0 qs.0 qs.1.0 a.0 a.1.0.ref_ptr.0 a.1.0.ref_ptr.1 a.1.0.ghost_name a.1.0.now C Λ fm known
       ((LL.lawful (D κs) (L κs) 𝓛).typed a.0 _ are.0).0 (LL.owed (D κs) (L κs) a.0 _ are.0).1.0 are.1.0.0.1))
 
@@ -190,7 +190,7 @@ mul_meets : {M : Type 1} {𝓤 : Ura M} (𝓛 : Logic 𝓤) (mem : Memory → SP
     → Triple 𝓤 (𝓣.C #mul-read) (At 𝓛 mem run)
     → Meets 𝓛 mul.signature (WpFn 𝓤 𝓛.H 𝓣.C 𝓣.Λ code.function) (mul.spec 𝓛 mem run)
 mul_meets {𝓤 = 𝓤} 𝓛 mem run 𝓣 known = walk_Meets 𝓛 mul.ended stayed (Goes-none 𝓛 2 B yes (λ κs x f. refl), (Goes-gave_slice 𝓛 2 1 tt (plain (λ _. f64)), tt)) (mul.clauses 𝓛 mem run) (WpFn 𝓤 𝓛.H 𝓣.C 𝓣.Λ code.function) (WpFn-mono 𝓤 𝓛.H 𝓛.laws 𝓣 code.function)
-    (mul-walks 𝓛 mem run 𝓣.C 𝓣.Λ (fm_of 𝓤 𝓛.H 𝓛.laws 𝓣) known)
+    (mul_walks 𝓛 mem run 𝓣.C 𝓣.Λ (fm_of 𝓤 𝓛.H 𝓛.laws 𝓣) known)
 
 pub mul-qt-b-spec : {M : Type 1} → stated.statement M
 unfolding code.routine tables_of

@@ -138,18 +138,18 @@ module _ {M : Type 1} {𝓤 : Ura M} (𝓛 : Logic 𝓤) (mem : Memory → SProp
   abbrev Passed : Type 0
   Passed = State × (Bor (List Float) × (Bor (List ℕ) × (Bor (List Float) × (Bor (List Float) × Unit {0}))))
 
-  abbrev given-at : Passed
-  given-at = (d.state, (d.square, (ord, (rhs, (x, tt)))))
+  abbrev given_at : Passed
+  given_at = (d.state, (d.square, (ord, (rhs, (x, tt)))))
 
   abbrev passed : Vals at.signature κs
   passed = (vst ∷ [], (slice_val d.square.ref_ptr (length d.square.now) ∷ [], (vo ∷ [], (vr ∷ [], (s ∷ [], tt)))))
 
   abbrev to : (At 𝓛 mem run).Ghost
-  to = ((κs, qs, tt, given-at, passed), tt)
+  to = ((κs, qs, tt, given_at, passed), tt)
 
-  asked : ent 𝓤 (on_entry 𝓛 at.signature κs qs given-at passed) ((At 𝓛 mem run).pre to)
+  asked : ent 𝓤 (on_entry 𝓛 at.signature κs qs given_at passed) ((At 𝓛 mem run).pre to)
   asked =
-      qed 𝓛 ((‵ (flft κ q) ⊛ ‵ (flft κ₁ q₁) ⊛ ‵ (flft κ₂ q₂) ⊛ ‵ (flft κ₃ q₃) ⊛ ‵ ftrue) ∷ ‵ (owns (Q.the_row ∷ ShrSlice (named 0) κ f64 ∷ ShrSlice (named 1) κ₁ usize ∷ ShrSlice (named 2) κ₂ f64 ∷ MutSlice (named 3) κ₃ f64 ∷ []) given-at passed) ∷ []) ∵
+      qed 𝓛 ((‵ (flft κ q) ⊛ ‵ (flft κ₁ q₁) ⊛ ‵ (flft κ₂ q₂) ⊛ ‵ (flft κ₃ q₃) ⊛ ‵ ftrue) ∷ ‵ (owns (Q.the_row ∷ ShrSlice (named 0) κ f64 ∷ ShrSlice (named 1) κ₁ usize ∷ ShrSlice (named 2) κ₂ f64 ∷ MutSlice (named 3) κ₃ f64 ∷ []) given_at passed) ∷ []) ∵
       join ! $ frame ! $ done !
 
   -- what the struct and the slices own gives what the callee asks, and what can be copied is kept
@@ -192,8 +192,8 @@ module _ {M : Type 1} {𝓤 : Ura M} (𝓛 : Logic 𝓤) (mem : Memory → SProp
         assigns ! (agg ! (and_then ! (load ! (from ! (stop !)) (look ! 2 refl)) (and_then ! (load ! (from ! (fld ! refl (stop !))) (look_in ! 8 (sub ! 1 refl (whole !)))) (no_more !)))) (from ! (stop !)) (init ! 0 refl (tt, (tt, (record { fits = room.0 }, tt)))) $
         move ! (18 ∷ []) $ use1 𝓛 (raw ((At 𝓛 mem run).pre to) ⊛ (‵ OwnR ⊛ (‵ OwnO ⊛ ‵ Own))) (apart ps) $ split ! $
         calls_at ! fm (At 𝓛 mem run) known to (and_then ! (load ! (from ! (stop !)) (look ! 8 refl)) (and_then ! (load ! (from ! (stop !)) (look ! 6 refl)) (and_then ! (load ! (from ! (stop !)) (look ! 14 refl)) (and_then ! (load ! (from ! (stop !)) (look ! 12 refl)) (and_then ! (load ! (from ! (stop !)) (look ! 2 refl)) (no_more !)))))) (λ u.
-        use1 𝓛 (later (some (λ (r : Done). ((‵ (flft κ q) ⊛ ‵ (flft κ₁ q₁) ⊛ ‵ (flft κ₂ q₂) ⊛ ‵ (flft κ₃ q₃) ⊛ ‵ ftrue) ⊛ ‵ ((S.the_row).own_val r (u ∷ []))) ⊛ raw (ensured 𝓛 at.ended (at.clauses 𝓛 mem run) κs given-at tt r)))) (id⊢ 𝓤 _) $ await ! tt $ pick ! (λ r.
-        split ! $ move ! (1 ∷ []) $ use1 𝓛 (some (λ (zs : Unit {0} × (Unit {0} × (Unit {0} × (Unit {0} × (List Float × Unit {0}))))). ‵ (lasts at.ended κs given-at zs) ⊛ raw (fact 𝓤 (Said r zs.1.1.1.1.0)))) (id⊢ 𝓤 _) $ pick ! (λ zs.
+        use1 𝓛 (later (some (λ (r : Done). ((‵ (flft κ q) ⊛ ‵ (flft κ₁ q₁) ⊛ ‵ (flft κ₂ q₂) ⊛ ‵ (flft κ₃ q₃) ⊛ ‵ ftrue) ⊛ ‵ ((S.the_row).own_val r (u ∷ []))) ⊛ raw (ensured 𝓛 at.ended (at.clauses 𝓛 mem run) κs given_at tt r)))) (id⊢ 𝓤 _) $ await ! tt $ pick ! (λ r.
+        split ! $ move ! (1 ∷ []) $ use1 𝓛 (some (λ (zs : Unit {0} × (Unit {0} × (Unit {0} × (Unit {0} × (List Float × Unit {0}))))). ‵ (lasts at.ended κs given_at zs) ⊛ raw (fact 𝓤 (Said r zs.1.1.1.1.0)))) (id⊢ 𝓤 _) $ pick ! (λ zs.
         split ! $ move ! (1 ∷ []) $ heard ! (Said r zs.1.1.1.1.0) (λ e. fsplit ! $ move ! (1 ∷ []) $ fsplit ! $ move ! (1 ∷ []) $ fsplit ! $ move ! (1 ∷ []) $ fsplit ! $ move ! (1 ∷ []) $ fsplit ! $ fsplit ! $ move ! (1 ∷ []) $ feq_l ! (λ l.
         -- [the last list; true; of rhs, order, square, the state; the tokens and the result; what the slices and the struct own; _8; …]
         move ! (6 ∷ []) $ split ! $ move ! (1 ∷ []) $ peeks ! S.the_row (Is S.the_row) (shows 𝓛 S.the_row) r (u ∷ []) (λ is.
@@ -206,9 +206,9 @@ module _ {M : Type 1} {𝓤 : Ura M} (𝓛 : Logic 𝓤) (mem : Memory → SProp
 module _ {M : Type 1} {𝓤 : Ura M} (𝓛 : Logic 𝓤) (mem : Memory → SProp 𝓤) (run : Routine → Fun 𝓤) where
   open 𝓛 use {H}
 
-  solve-walks : (C : Calls 𝓤 H) (Λ : Loops 𝓤 H) → FmC 𝓤 H 𝓛.laws C → Triple 𝓤 (C #solve-read) (At 𝓛 mem run)
+  solve_walks : (C : Calls 𝓤 H) (Λ : Loops 𝓤 H) → FmC 𝓤 H 𝓛.laws C → Triple 𝓤 (C #solve-read) (At 𝓛 mem run)
       → Walks 𝓛 solve.ended stayed (WpFn 𝓤 H C Λ code.function) (solve.clauses 𝓛 mem run)
-  solve-walks C Λ fm known =
+  solve_walks C Λ fm known =
       walked 𝓛 solve.ended stayed (solve.clauses 𝓛 mem run) (WpFn 𝓤 H C Λ code.function) (λ κs. (LL.vals (D κs) (L κs), (shr_slice_vals, (shr_slice_vals, (shr_slice_vals, tt)))))
       (λ κs. (LL.tells (D κs) (L κs), (shr_slice_Tells (named 1) κs.1.0 usize, (shr_slice_Tells (named 2) κs.1.1.0 f64, (mut_slice_Tells (named 3) κs.1.1.1.0 f64, tt)))))
       (λ κs qs bounds a g are. via 𝓤 _ (fst∗ 𝓤 _ (emp 𝓤)) (walk 𝓛 mem run κs.0 κs.1.0 κs.1.1.0 κs.1.1.1.0 qs.0 qs.1.0 qs.1.1.0 qs.1.1.1.0 a.0 a.1.0 a.1.1.0 a.1.1.1.0.ref_ptr.0 a.1.1.1.0.ref_ptr.1 a.1.1.1.0.ghost_name a.1.1.1.0.now C Λ fm known
@@ -221,7 +221,7 @@ solve_meets : {M : Type 1} {𝓤 : Ura M} (𝓛 : Logic 𝓤) (mem : Memory → 
     → Triple 𝓤 (𝓣.C #solve-read) (At 𝓛 mem run)
     → Meets 𝓛 solve.signature (WpFn 𝓤 𝓛.H 𝓣.C 𝓣.Λ code.function) (solve.spec 𝓛 mem run)
 solve_meets {𝓤 = 𝓤} 𝓛 mem run 𝓣 known = walk_Meets 𝓛 solve.ended stayed (goes 𝓛 mem run) (solve.clauses 𝓛 mem run) (WpFn 𝓤 𝓛.H 𝓣.C 𝓣.Λ code.function) (WpFn-mono 𝓤 𝓛.H 𝓛.laws 𝓣 code.function)
-    (solve-walks 𝓛 mem run 𝓣.C 𝓣.Λ (fm_of 𝓤 𝓛.H 𝓛.laws 𝓣) known)
+    (solve_walks 𝓛 mem run 𝓣.C 𝓣.Λ (fm_of 𝓤 𝓛.H 𝓛.laws 𝓣) known)
 
 pub solve-spec : {M : Type 1} → stated.statement M
 unfolding code.routine tables_of

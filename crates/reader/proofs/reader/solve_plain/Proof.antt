@@ -59,7 +59,7 @@ use Rattle.reader.proofs.reader.solve.Symbol as thin-def
 use Rattle.reader.proofs.reader.solve.Symbol.{name as #thin}
 use Rattle.reader.proofs.reader.solve.Met as thin-thm
 use Rattle.reader.specs.contracts.reader.solve_plain.Key.{name as #plain}
-use Rattle.reader.specs.contracts.reader.solve_plain as plain-one
+use Rattle.reader.specs.contracts.reader.solve_plain as plain_one
 use Rattle.reader.proofs.reader.solve_plain.Statement as stated
 use Rattle.reader.proofs.reader.solve_plain.Code as code
 
@@ -67,7 +67,7 @@ use Rattle.reader.proofs.reader.solve_plain.Code as code
 abbrev B : Lfts 4 → RattleType
 B κs = T.the_row (named_lft 4 0 tt κs)
 
-abbrev stayed : Stays (plain-one.ended).signature.params (plain-one.ended).kept
+abbrev stayed : Stays (plain_one.ended).signature.params (plain_one.ended).kept
 stayed = (stay_none_slice (0 ∷ []) tt (plain (λ _. f64)) yes, (stay_none (λ _. Q.the_row) yes, (stay_none_slice (1 ∷ []) tt (plain (λ _. usize)) yes, (stay_none_slice (2 ∷ []) tt (plain (λ _. f64)) yes, (gave_slice (3 ∷ []) tt (plain (λ _. f64)), tt)))))
 
 module _ {M : Type 1} {𝓤 : Ura M} (𝓛 : Logic 𝓤) (mem : Memory → SProp 𝓤) (run : Routine → Fun 𝓤) where
@@ -120,7 +120,7 @@ module _ {M : Type 1} {𝓤 : Ura M} (𝓛 : Logic 𝓤) (mem : Memory → SProp
   αᵉ = record { mir = erased; lft = κ }
 
   abbrev Post : Val → SProp 𝓤
-  Post = (walk_of 𝓛 plain-one.ended stayed (plain-one.clauses 𝓛 mem run)).post ((κs, qs, tt, a, vals), tt)
+  Post = (walk_of 𝓛 plain_one.ended stayed (plain_one.clauses 𝓛 mem run)).post ((κs, qs, tt, a, vals), tt)
 
   abbrev Own : Fml
   Own = (ShrSlice (named 0) κ f64).own_val sq (v ∷ [])
@@ -144,10 +144,10 @@ module _ {M : Type 1} {𝓤 : Ura M} (𝓛 : Logic 𝓤) (mem : Memory → SProp
   vals₂ = (v ∷ [], (vst ∷ [], tt))
 
   -- the call of `new`
-  abbrev to-new : (New 𝓛 mem run).Ghost
-  to-new = (((κ, tt), (q, tt), tt, a₂, vals₂), tt)
+  abbrev to_new : (New 𝓛 mem run).Ghost
+  to_new = (((κ, tt), (q, tt), tt, a₂, vals₂), tt)
 
-  asked-new : ent 𝓤 (on_entry 𝓛 new.signature (κ, tt) (q, tt) a₂ vals₂) ((New 𝓛 mem run).pre to-new)
+  asked-new : ent 𝓤 (on_entry 𝓛 new.signature (κ, tt) (q, tt) a₂ vals₂) ((New 𝓛 mem run).pre to_new)
   asked-new = qed 𝓛 ((‵ (flft κ q) ⊛ ‵ ftrue) ∷ ‵ (owns (ShrSlice (named 0) κ f64 ∷ Q.the_row ∷ []) a₂ vals₂) ∷ []) ∵ join ! $ frame ! $ done !
 
   -- what is kept for the exit, and what goes to `solve` beside the struct
@@ -157,8 +157,8 @@ module _ {M : Type 1} {𝓤 : Ura M} (𝓛 : Logic 𝓤) (mem : Memory → SProp
   abbrev Gives : SProp 𝓤
   Gives = sep 𝓤 (sem 𝓛 OwnO) (sep 𝓤 (sem 𝓛 OwnR) (sep 𝓤 (sem 𝓛 OwnX) (sep 𝓤 (A.lft κ₁ q₁) (sep 𝓤 (A.lft κ₂ q₂) (sep 𝓤 (A.lft κ₃ q₃) (emp 𝓤))))))
 
-  goes-new : Is Q.the_row st (vst ∷ []) → ent 𝓤 (on_entry 𝓛 plain-one.signature κs qs a vals) (sep 𝓤 ((New 𝓛 mem run).pre to-new) (sep 𝓤 Kept Gives))
-  goes-new ps =
+  goes_new : Is Q.the_row st (vst ∷ []) → ent 𝓤 (on_entry 𝓛 plain_one.signature κs qs a vals) (sep 𝓤 ((New 𝓛 mem run).pre to_new) (sep 𝓤 Kept Gives))
+  goes_new ps =
       qed 𝓛 ((‵ (flft κ q) ⊛ ‵ (flft κ₁ q₁) ⊛ ‵ (flft κ₂ q₂) ⊛ ‵ (flft κ₃ q₃) ⊛ ‵ ftrue) ∷ ‵ (owns (ShrSlice (named 0) κ f64 ∷ Q.the_row ∷ ShrSlice (named 1) κ₁ usize ∷ ShrSlice (named 2) κ₂ f64 ∷ MutSlice (named 3) κ₃ f64 ∷ []) a vals) ∷ []) ∵
       move ! (1 ∷ []) $ fsplit ! $ use1 𝓛 (‵ Own ⊛ ‵ Own) ((shr_slice_copy 𝓛 (named 0) κ f64).twice sq (v ∷ [])) $ split ! $
       -- [what square owns; the same; what the others own; the tokens]
@@ -168,15 +168,15 @@ module _ {M : Type 1} {𝓤 : Ura M} (𝓛 : Logic 𝓤) (mem : Memory → SProp
       -- [what out owns; true; what rhs owns; the same; what order owns; the same; what square owns; the same; the tokens]
       move ! (1 ∷ []) $ owned ! Q.the_row (Is Q.the_row) (LL.makes Q.the_type Q'.the_plain 𝓛) st (vst ∷ []) ps $ fjoin ! $ move ! (6 ∷ 0 ∷ []) $ fjoin ! $
       -- [what square and the state own; what out owns; of rhs; of rhs; of order; of order; of square; the tokens]
-      move ! (7 ∷ []) $ split ! $ nothing ! $ move ! (1 ∷ 0 ∷ []) $ join ! $ move ! (0 ∷ 2 ∷ []) $ use2 𝓛 (raw ((New 𝓛 mem run).pre to-new)) asked-new $ frame ! $
+      move ! (7 ∷ []) $ split ! $ nothing ! $ move ! (1 ∷ 0 ∷ []) $ join ! $ move ! (0 ∷ 2 ∷ []) $ use2 𝓛 (raw ((New 𝓛 mem run).pre to_new)) asked-new $ frame ! $
       -- [the other tokens; what out owns; of rhs; of rhs; of order; of order; of square]
       move ! (4 ∷ 2 ∷ []) $ join ! $ move ! (5 ∷ 0 ∷ []) $ join ! $ frame ! $ move ! (3 ∷ []) $ frame ! $ move ! (2 ∷ []) $ frame ! $ move ! (1 ∷ []) $ frame ! $ done !
 
   abbrev made : CholeskyFactor
   made = record { square = sq; state = st }
 
-  new-said : (r : CholeskyFactor) → ent 𝓤 (ensured 𝓛 new.ended (new.clauses 𝓛 mem run) (κ, tt) a₂ tt r) (fact 𝓤 (r ≡ made))
-  new-said r = ex_e 𝓤 _ (λ ws. snd∗ 𝓤 (sem 𝓛 (lasts new.ended (κ, tt) a₂ ws)) (fact 𝓤 (r ≡ made)))
+  new_said : (r : CholeskyFactor) → ent 𝓤 (ensured 𝓛 new.ended (new.clauses 𝓛 mem run) (κ, tt) a₂ tt r) (fact 𝓤 (r ≡ made))
+  new_said r = ex_e 𝓤 _ (λ ws. snd∗ 𝓤 (sem 𝓛 (lasts new.ended (κ, tt) a₂ ws)) (fact 𝓤 (r ≡ made)))
 
   -- the call of `solve`, at the struct r with the machine value u
   abbrev Arg₃ : Type 0
@@ -185,11 +185,11 @@ module _ {M : Type 1} {𝓤 : Ura M} (𝓛 : Logic 𝓤) (mem : Memory → SProp
   abbrev a₃ : CholeskyFactor → Arg₃
   a₃ r = (r, (ord, (rhs, (x, tt))))
 
-  abbrev to-thin : CholeskyFactor → Val → (Thin 𝓛 mem run).Ghost
-  to-thin r u = ((κs, qs, tt, a₃ r, (u ∷ [], (vo ∷ [], (vr ∷ [], (s ∷ [], tt))))), tt)
+  abbrev to_thin : CholeskyFactor → Val → (Thin 𝓛 mem run).Ghost
+  to_thin r u = ((κs, qs, tt, a₃ r, (u ∷ [], (vo ∷ [], (vr ∷ [], (s ∷ [], tt))))), tt)
 
-  goes-thin : (r : CholeskyFactor) (u : Val) → ent 𝓤 (⋆ 𝓛 (‵ ((B κs).own_val r (u ∷ [])) ∷ (‵ (flft κ q) ⊛ ‵ ftrue) ∷ (‵ OwnO ⊛ (‵ OwnR ⊛ (‵ OwnX ⊛ (‵ (flft κ₁ q₁) ⊛ ‵ (flft κ₂ q₂) ⊛ ‵ (flft κ₃ q₃) ⊛ ‵ ftrue)))) ∷ [])) ((Thin 𝓛 mem run).pre (to-thin r u))
-  goes-thin r u =
+  goes_thin : (r : CholeskyFactor) (u : Val) → ent 𝓤 (⋆ 𝓛 (‵ ((B κs).own_val r (u ∷ [])) ∷ (‵ (flft κ q) ⊛ ‵ ftrue) ∷ (‵ OwnO ⊛ (‵ OwnR ⊛ (‵ OwnX ⊛ (‵ (flft κ₁ q₁) ⊛ ‵ (flft κ₂ q₂) ⊛ ‵ (flft κ₃ q₃) ⊛ ‵ ftrue)))) ∷ [])) ((Thin 𝓛 mem run).pre (to_thin r u))
+  goes_thin r u =
       qed 𝓛 (‵ ((B κs).own_val r (u ∷ [])) ∷ (‵ (flft κ q) ⊛ ‵ ftrue) ∷ (‵ OwnO ⊛ (‵ OwnR ⊛ (‵ OwnX ⊛ (‵ (flft κ₁ q₁) ⊛ ‵ (flft κ₂ q₂) ⊛ ‵ (flft κ₃ q₃) ⊛ ‵ ftrue)))) ∷ []) ∵
       move ! (2 ∷ []) $ split ! $ move ! (1 ∷ []) $ split ! $ move ! (1 ∷ []) $ split ! $
       -- [what out owns; the other tokens; what rhs owns; what order owns; what the struct owns; the square's token]
@@ -205,7 +205,7 @@ module _ {M : Type 1} {𝓤 : Ura M} (𝓛 : Logic 𝓤) (mem : Memory → SProp
       → ent 𝓤 (⋆ 𝓛 (‵ ((S.the_row).own_val r (u ∷ [])) ∷ (‵ (flft κ q) ⊛ ‵ (flft κ₁ q₁) ⊛ ‵ (flft κ₂ q₂) ⊛ ‵ (flft κ₃ q₃) ⊛ ‵ ftrue) ∷ ‵ (finally f64 γ zs) ∷ (‵ Own ⊛ (‵ OwnO ⊛ ‵ OwnR)) ∷ [])) (Post u)
   exits ps r u zs e l =
       qed 𝓛 (‵ ((S.the_row).own_val r (u ∷ [])) ∷ (‵ (flft κ q) ⊛ ‵ (flft κ₁ q₁) ⊛ ‵ (flft κ₂ q₂) ⊛ ‵ (flft κ₃ q₃) ⊛ ‵ ftrue) ∷ ‵ (finally f64 γ zs) ∷ (‵ Own ⊛ (‵ OwnO ⊛ ‵ OwnR)) ∷ []) ∵
-      suffices ! _ (ends_at 𝓛 plain-one.ended stayed (plain-one.clauses 𝓛 mem run) ((κs, qs, tt, a, vals), tt) u r (tt, (tt, (tt, (tt, (zs, tt))))) (tt, (tt, (tt, (tt, (l, tt)))))) $ says ! e $
+      suffices ! _ (ends_at 𝓛 plain_one.ended stayed (plain_one.clauses 𝓛 mem run) ((κs, qs, tt, a, vals), tt) u r (tt, (tt, (tt, (tt, (zs, tt))))) (tt, (tt, (tt, (tt, (l, tt)))))) $ says ! e $
       move ! (1 ∷ []) $ frame ! $ nothing ! $ move ! (2 ∷ 0 ∷ []) $ fjoin ! $
       -- [of out; the result; what the shared slices own]
       move ! (2 ∷ []) $ split ! $ move ! (1 ∷ []) $ split ! $ move ! (1 ∷ 3 ∷ []) $ fjoin ! $ move ! (1 ∷ 0 ∷ []) $ fjoin ! $ owned ! Q.the_row (Is Q.the_row) (LL.makes Q.the_type Q'.the_plain 𝓛) st (vst ∷ []) ps $ fjoin ! $
@@ -213,17 +213,17 @@ module _ {M : Type 1} {𝓤 : Ura M} (𝓛 : Logic 𝓤) (mem : Memory → SProp
 
   module _ (C : Calls 𝓤 H) (Λ : Loops 𝓤 H) (fm : FmC 𝓤 H 𝓛.laws C) (known-new : Triple 𝓤 (C #new) (New 𝓛 mem run)) (known-thin : Triple 𝓤 (C #thin) (Thin 𝓛 mem run)) where
     walk : Is (ShrSlice (named 0) κ f64) sq (v ∷ []) → Is Q.the_row st (vst ∷ []) → Is (ShrSlice (named 1) κ₁ usize) ord (vo ∷ []) → Is (ShrSlice (named 2) κ₂ f64) rhs (vr ∷ []) → Room f64 (length ys)
-        → ent 𝓤 (on_entry 𝓛 plain-one.signature κs qs a vals) (WpFn 𝓤 H C Λ code.function (v ∷ vst ∷ vo ∷ vr ∷ s ∷ []) Post)
+        → ent 𝓤 (on_entry 𝓛 plain_one.signature κs qs a vals) (WpFn 𝓤 H C Λ code.function (v ∷ vst ∷ vo ∷ vr ∷ s ∷ []) Post)
     walk p ps po pr room =
-        qed 𝓛 (raw (on_entry 𝓛 plain-one.signature κs qs a vals) ∷ []) ∵ enter ! C Λ code.function (v ∷ vst ∷ vo ∷ vr ∷ s ∷ []) _ $
+        qed 𝓛 (raw (on_entry 𝓛 plain_one.signature κs qs a vals) ∷ []) ∵ enter ! C Λ code.function (v ∷ vst ∷ vo ∷ vr ∷ s ∷ []) _ $
         alloc1 ! (λ l₀. alloc1 ! (λ l₁. alloc1 ! (λ l₂. alloc1 ! (λ l₃. alloc1 ! (λ l₄. alloc1 ! (λ l₅. alloc1 ! (λ l₆. alloc1 ! (λ l₇. alloc1 ! (λ l₈. alloc0 ! $ params1 ! $
         pass1 ! (init ! 14 refl ((shr_slice_Lawful 𝓛 (named 0) κ f64).typed sq (v ∷ []) p).0) $ pass1 ! (init ! 12 refl ((LL.lawful Q.the_type Q'.the_laws 𝓛).typed st _ ps).0) $
         pass1 ! (init ! 10 refl ((shr_slice_Lawful 𝓛 (named 1) κ₁ usize).typed ord (vo ∷ []) po).0) $ pass1 ! (init ! 8 refl ((shr_slice_Lawful 𝓛 (named 2) κ₂ f64).typed rhs (vr ∷ []) pr).0) $ pass1 ! (init ! 6 refl (tt, (tt, (record { fits = room.0 }, tt)))) $ pass0 ! $
         -- `new`
-        move ! (18 ∷ []) $ use1 𝓛 (raw ((New 𝓛 mem run).pre to-new) ⊛ ((‵ Own ⊛ (‵ OwnO ⊛ ‵ OwnR)) ⊛ (‵ OwnO ⊛ (‵ OwnR ⊛ (‵ OwnX ⊛ (‵ (flft κ₁ q₁) ⊛ ‵ (flft κ₂ q₂) ⊛ ‵ (flft κ₃ q₃) ⊛ ‵ ftrue)))))) (goes-new ps) $ split ! $
-        calls_at ! fm (New 𝓛 mem run) known-new to-new (and_then ! (load ! (from ! (stop !)) (look ! 16 refl)) (and_then ! (load ! (from ! (stop !)) (look ! 14 refl)) (no_more !))) (λ u.
+        move ! (18 ∷ []) $ use1 𝓛 (raw ((New 𝓛 mem run).pre to_new) ⊛ ((‵ Own ⊛ (‵ OwnO ⊛ ‵ OwnR)) ⊛ (‵ OwnO ⊛ (‵ OwnR ⊛ (‵ OwnX ⊛ (‵ (flft κ₁ q₁) ⊛ ‵ (flft κ₂ q₂) ⊛ ‵ (flft κ₃ q₃) ⊛ ‵ ftrue)))))) (goes_new ps) $ split ! $
+        calls_at ! fm (New 𝓛 mem run) known-new to_new (and_then ! (load ! (from ! (stop !)) (look ! 16 refl)) (and_then ! (load ! (from ! (stop !)) (look ! 14 refl)) (no_more !))) (λ u.
         use1 𝓛 (later (some (λ (r : CholeskyFactor). ((‵ (flft κ q) ⊛ ‵ ftrue) ⊛ ‵ ((B κs).own_val r (u ∷ []))) ⊛ raw (ensured 𝓛 new.ended (new.clauses 𝓛 mem run) (κ, tt) a₂ tt r)))) (id⊢ 𝓤 _) $ await ! tt $ pick ! (λ r.
-        split ! $ move ! (1 ∷ []) $ use1 𝓛 (raw (fact 𝓤 (r ≡ made))) (new-said r) $ heard ! (r ≡ made) (λ e. split ! $ move ! (1 ∷ []) $
+        split ! $ move ! (1 ∷ []) $ use1 𝓛 (raw (fact 𝓤 (r ≡ made))) (new_said r) $ heard ! (r ≡ made) (λ e. split ! $ move ! (1 ∷ []) $
         -- [what the struct owns; the square's token; what is kept and what goes on; _8; …]
         peeks ! (B κs) (Is (B κs)) (shows 𝓛 (B κs)) r (u ∷ []) (λ is.
         land ! (from ! (stop !)) (init ! 7 refl ((LL.lawful (T.the_type αᵉ) (T'.the_laws αᵉ) 𝓛).typed r _ is).0) $
@@ -232,8 +232,8 @@ module _ {M : Type 1} {𝓤 : Ura M} (𝓛 : Logic 𝓤) (mem : Memory → SProp
         assigns ! (addr ! (from ! (fld ! refl (hop ! (look_in ! 10 (sub ! 0 refl (whole !))) (stop !))))) (from ! (stop !)) (init ! 6 refl (tt, tt)) $
         assigns ! (agg ! (and_then ! (load ! (from ! (stop !)) (look ! 6 refl)) (and_then ! (load ! (from ! (fld ! refl (stop !))) (look_in ! 10 (sub ! 1 refl (whole !)))) (no_more !)))) (from ! (stop !)) (init ! 4 refl (tt, (tt, (record { fits = room.0 }, tt)))) $
         -- `solve`
-        move ! (2 ∷ 3 ∷ 1 ∷ []) $ use3 𝓛 (raw ((Thin 𝓛 mem run).pre (to-thin r u))) (goes-thin r u) $
-        calls_at ! fm (Thin 𝓛 mem run) known-thin (to-thin r u) (and_then ! (load ! (from ! (stop !)) (look ! 6 refl)) (and_then ! (load ! (from ! (stop !)) (look ! 12 refl)) (and_then ! (load ! (from ! (stop !)) (look ! 10 refl)) (and_then ! (load ! (from ! (stop !)) (look ! 2 refl)) (no_more !))))) (λ u'.
+        move ! (2 ∷ 3 ∷ 1 ∷ []) $ use3 𝓛 (raw ((Thin 𝓛 mem run).pre (to_thin r u))) (goes_thin r u) $
+        calls_at ! fm (Thin 𝓛 mem run) known-thin (to_thin r u) (and_then ! (load ! (from ! (stop !)) (look ! 6 refl)) (and_then ! (load ! (from ! (stop !)) (look ! 12 refl)) (and_then ! (load ! (from ! (stop !)) (look ! 10 refl)) (and_then ! (load ! (from ! (stop !)) (look ! 2 refl)) (no_more !))))) (λ u'.
         use1 𝓛 (later (some (λ (k : Done). ((‵ (flft κ q) ⊛ ‵ (flft κ₁ q₁) ⊛ ‵ (flft κ₂ q₂) ⊛ ‵ (flft κ₃ q₃) ⊛ ‵ ftrue) ⊛ ‵ ((S.the_row).own_val k (u' ∷ []))) ⊛ raw (ensured 𝓛 thin.ended (thin.clauses 𝓛 mem run) κs (a₃ r) tt k)))) (id⊢ 𝓤 _) $ await ! tt $ pick ! (λ k.
         split ! $ move ! (1 ∷ []) $ use1 𝓛 (some (λ (zs : Unit {0} × (Unit {0} × (Unit {0} × (List Float × Unit {0})))). ‵ (lasts thin.ended κs (a₃ r) zs) ⊛ raw (fact 𝓤 (read (done_of k) zs.1.1.1.0 ≡ shown r)))) (id⊢ 𝓤 _) $ pick ! (λ zs.
         split ! $ move ! (1 ∷ []) $ heard ! (read (done_of k) zs.1.1.1.0 ≡ shown r) (λ e'. fsplit ! $ move ! (1 ∷ []) $ fsplit ! $ move ! (1 ∷ []) $ fsplit ! $ move ! (1 ∷ []) $ fsplit ! $ fsplit ! $ move ! (1 ∷ []) $ feq_l ! (λ l.
@@ -248,27 +248,27 @@ module _ {M : Type 1} {𝓤 : Ura M} (𝓛 : Logic 𝓤) (mem : Memory → SProp
 module _ {M : Type 1} {𝓤 : Ura M} (𝓛 : Logic 𝓤) (mem : Memory → SProp 𝓤) (run : Routine → Fun 𝓤) where
   open 𝓛 use {H}
 
-  plain-walks : (C : Calls 𝓤 H) (Λ : Loops 𝓤 H) → FmC 𝓤 H 𝓛.laws C → Triple 𝓤 (C #new) (New 𝓛 mem run) → Triple 𝓤 (C #thin) (Thin 𝓛 mem run)
-      → Walks 𝓛 plain-one.ended stayed (WpFn 𝓤 H C Λ code.function) (plain-one.clauses 𝓛 mem run)
-  plain-walks C Λ fm known-new known-thin = walked 𝓛 plain-one.ended stayed (plain-one.clauses 𝓛 mem run) (WpFn 𝓤 H C Λ code.function)
+  plain_walks : (C : Calls 𝓤 H) (Λ : Loops 𝓤 H) → FmC 𝓤 H 𝓛.laws C → Triple 𝓤 (C #new) (New 𝓛 mem run) → Triple 𝓤 (C #thin) (Thin 𝓛 mem run)
+      → Walks 𝓛 plain_one.ended stayed (WpFn 𝓤 H C Λ code.function) (plain_one.clauses 𝓛 mem run)
+  plain_walks C Λ fm known-new known-thin = walked 𝓛 plain_one.ended stayed (plain_one.clauses 𝓛 mem run) (WpFn 𝓤 H C Λ code.function)
       (λ κs. (shr_slice_vals, (LL.vals Q.the_type Q'.the_laws, (shr_slice_vals, (shr_slice_vals, (mut_slice_vals, tt)))))) (λ κs. (shr_slice_Tells (named 0) κs.0 f64, (LL.tells Q.the_type Q'.the_laws, (shr_slice_Tells (named 1) κs.1.0 usize, (shr_slice_Tells (named 2) κs.1.1.0 f64, (mut_slice_Tells (named 3) κs.1.1.1.0 f64, tt))))))
       (λ κs qs bounds a g are. via 𝓤 _ (fst∗ 𝓤 _ (emp 𝓤)) (walk 𝓛 mem run κs.0 κs.1.0 κs.1.1.0 κs.1.1.1.0 qs.0 qs.1.0 qs.1.1.0 qs.1.1.1.0 a.0 a.1.0 a.1.1.0 a.1.1.1.0
       a.1.1.1.1.0.ref_ptr.0 a.1.1.1.1.0.ref_ptr.1 a.1.1.1.1.0.ghost_name a.1.1.1.1.0.now C Λ fm known-new known-thin are.0 are.1.0 are.1.1.0 are.1.1.1.0 are.1.1.1.1.0.0.1))
 
-  goes : AllGo 𝓛 4 (plain-one.signature).params (plain-one.ended).kept stayed
+  goes : AllGo 𝓛 4 (plain_one.signature).params (plain_one.ended).kept stayed
   goes = (Goes-none_slice 𝓛 4 (0 ∷ []) tt (plain (λ _. f64)) yes, (Goes-none 𝓛 4 (λ _. Q.the_row) yes (λ κs x f. refl), (Goes-none_slice 𝓛 4 (1 ∷ []) tt (plain (λ _. usize)) yes, (Goes-none_slice 𝓛 4 (2 ∷ []) tt (plain (λ _. f64)) yes, (Goes-gave_slice 𝓛 4 3 tt (plain (λ _. f64)), tt)))))
 
 plain_meets : {M : Type 1} {𝓤 : Ura M} (𝓛 : Logic 𝓤) (mem : Memory → SProp 𝓤) (run : Routine → Fun 𝓤) (𝓣 : Tables 𝓤 𝓛.H)
     → Triple 𝓤 (𝓣.C #new) (New 𝓛 mem run) → Triple 𝓤 (𝓣.C #thin) (Thin 𝓛 mem run)
-    → Meets 𝓛 plain-one.signature (WpFn 𝓤 𝓛.H 𝓣.C 𝓣.Λ code.function) (plain-one.spec 𝓛 mem run)
+    → Meets 𝓛 plain_one.signature (WpFn 𝓤 𝓛.H 𝓣.C 𝓣.Λ code.function) (plain_one.spec 𝓛 mem run)
 plain_meets {𝓤 = 𝓤} 𝓛 mem run 𝓣 known-new known-thin =
-    walk_Meets 𝓛 plain-one.ended stayed (goes 𝓛 mem run) (plain-one.clauses 𝓛 mem run) (WpFn 𝓤 𝓛.H 𝓣.C 𝓣.Λ code.function) (WpFn-mono 𝓤 𝓛.H 𝓛.laws 𝓣 code.function)
-    (plain-walks 𝓛 mem run 𝓣.C 𝓣.Λ (fm_of 𝓤 𝓛.H 𝓛.laws 𝓣) known-new known-thin)
+    walk_Meets 𝓛 plain_one.ended stayed (goes 𝓛 mem run) (plain_one.clauses 𝓛 mem run) (WpFn 𝓤 𝓛.H 𝓣.C 𝓣.Λ code.function) (WpFn-mono 𝓤 𝓛.H 𝓛.laws 𝓣 code.function)
+    (plain_walks 𝓛 mem run 𝓣.C 𝓣.Λ (fm_of 𝓤 𝓛.H 𝓛.laws 𝓣) known-new known-thin)
 
 pub solve-plain-spec : {M : Type 1} → stated.statement M
 unfolding code.routine tables_of
 solve-plain-spec 𝓤 𝓛 𝓜 𝓡 =
-    entered 𝓤 𝓛.H (triple_of 𝓛 plain-one.signature (plain-one.spec 𝓛 𝓜.mem 𝓡.run))
+    entered 𝓤 𝓛.H (triple_of 𝓛 plain_one.signature (plain_one.spec 𝓛 𝓜.mem 𝓡.run))
     (tables 𝓤 𝓛.H 𝓜 𝓡 code.env).C (tables 𝓤 𝓛.H 𝓜 𝓡 code.env).Λ #plain code.function (code.unfolded 𝓤 𝓛.H 𝓜 𝓡)
     (plain_meets 𝓛 𝓜.mem 𝓡.run (tables_of 𝓤 𝓛.H 𝓜 (tables 𝓤 𝓛.H 𝓜 𝓡 code.env))
     (cited 𝓤 𝓛.H (New 𝓛 𝓜.mem 𝓡.run) 𝓜 𝓡 code.env #new new-def.routine code.calls-reader::reader::new (new-thm.met 𝓤 𝓛 𝓜 𝓡))

@@ -1,7 +1,7 @@
 -- `reduce::bench::reduce_filled` meets its contract. Assumes nothing.
 use borrow.Author.Rules.{rules}
 use Rattle.reduce.proofs.Lent.{passed}
-use Rattle.reduce.proofs.Filled.{filled-refuses}
+use Rattle.reduce.proofs.Filled.{filled_refuses}
 use Rattle.reduce.proofs.bench.reduce_filled.Statement.{statement}
 use Rattle.reduce.proofs.bench.reduce_filled.Tie as tie
 
@@ -11,7 +11,7 @@ check-requires c κs = search rules
 returns : tie.Need-returns
 returns c =
     let g = c.before.before.before.before.before.before.args in
-    filled-refuses g.m g.n g.norms.now g.diag.now g.order.now g.bench.now _ c.before.check.ensures c.if1.true
+    filled_refuses g.m g.n g.norms.now g.diag.now g.order.now g.bench.now _ c.before.check.ensures c.if1.true
 
 reduce-whole-requires : tie.Need-reduce-whole-requires
 reduce-whole-requires c κs =

@@ -11,8 +11,8 @@ use lib.Ieee.{Float}
 use Rattle.leaves.specs.Number.{plus_zero}
 use Rattle.leaves.specs.Tests.{outside}
 use Rattle.leaves.proofs.Insides.{inside}
-use Rattle.reduce.proofs.Lent.{benched, front-in, front-again, front_long, start-norms}
-use Rattle.reduce.proofs.Filled.{filled-works-out}
+use Rattle.reduce.proofs.Lent.{benched, front_in, front_again, front_long, start-norms}
+use Rattle.reduce.proofs.Filled.{filled_works_out}
 use Rattle.reduce.proofs.bench.reduce_whole.Statement.{statement}
 use Rattle.reduce.proofs.bench.reduce_whole.Tie as tie
 
@@ -41,7 +41,7 @@ begin-filled-requires c κs =
 array-borrow-prefix-work-2 : tie.Need-array-borrow-prefix-work-2
 array-borrow-prefix-work-2 c =
     let x = c.before.before.before.before.before.before.before.before.before.begin-filled in
-    front-in _ x.new.1.1.1.1.1.0 _ (scratch _ _ _ c.before.before.before.before.before.before.before.before.before.before.before.before.before.before.before.before.before.before.before.before.before.requires.0 c.before.before.before.before.before.before.before.before.before.before.before.before.before.before.before.before.room16.ensures) x.auto.1.1.1.1.1.0
+    front_in _ x.new.1.1.1.1.1.0 _ (scratch _ _ _ c.before.before.before.before.before.before.before.before.before.before.before.before.before.before.before.before.before.before.before.before.before.requires.0 c.before.before.before.before.before.before.before.before.before.before.before.before.before.before.before.before.room16.ensures) x.auto.1.1.1.1.1.0
 
 slice-aggregate-reduce : tie.Need-slice-aggregate-reduce
 slice-aggregate-reduce c =
@@ -77,8 +77,8 @@ returns c =
     let r = c.before.before.before.before.before.before.before.before.before.before.before.before.before.before.before.before.before.before.before.before.before.before.before.before.before.before.before.before.room16 in
     let x = c.before.before.before.before.before.before.before.before.before.before.before.before.before.before.before.before.before.before.before.before.before.begin-filled in
     let y = c.before.before.before.before.before.before.before.before.reduce in
-    let w = front-again g.n x.new.1.1.1.1.1.0 r.result (scratch _ _ _ p.0 r.ensures) x.auto.1.1.1.1.1.0 in
-    filled-works-out g.m g.n g.norms.now g.diag.now g.order.now g.bench.now p.0 p.1.0 p.1.1.0 p.1.1.1.0 p.1.1.1.1 x.new.1.1.1.0 x.new.1.1.1.1.0 x.new.1.1.1.1.1.0 _ y.new.1.1.1.0 y.new.1.1.1.1.0 y.new.1.1.0 x.new.1.1.1.1.1.1.0 y.new.1.1.1.1.1.0 x.result y.result x.ensures.0 x.ensures.1.0 w y.ensures.0 x.ensures.1.1 y.ensures.1 y.auto.1.1.0
+    let w = front_again g.n x.new.1.1.1.1.1.0 r.result (scratch _ _ _ p.0 r.ensures) x.auto.1.1.1.1.1.0 in
+    filled_works_out g.m g.n g.norms.now g.diag.now g.order.now g.bench.now p.0 p.1.0 p.1.1.0 p.1.1.1.0 p.1.1.1.1 x.new.1.1.1.0 x.new.1.1.1.1.0 x.new.1.1.1.1.1.0 _ y.new.1.1.1.0 y.new.1.1.1.1.0 y.new.1.1.0 x.new.1.1.1.1.1.1.0 y.new.1.1.1.1.1.0 x.result y.result x.ensures.0 x.ensures.1.0 w y.ensures.0 x.ensures.1.1 y.ensures.1 y.auto.1.1.0
 
 pub reduce-whole-spec : {M : Type 1} → statement M
 reduce-whole-spec =

@@ -9,7 +9,7 @@ use lib.Ieee.{nan}
 use Rattle.leaves.specs.Norm.{norm}
 use Rattle.reduce.specs.Reduction.{Reduction}
 use Rattle.reduce.specs.inner.Bench.{under_way}
-use Rattle.reduce.proofs.Pivots.{first-norm}
+use Rattle.reduce.proofs.Pivots.{first_norm}
 use Rattle.reduce.proofs.reduce.first_pivot.Statement.{statement}
 use Rattle.reduce.proofs.reduce.first_pivot.Tie as tie
 
@@ -47,7 +47,7 @@ returns c =
     let r = under_way g.m g.n g.bench.now g.diag.now g.work.now g.order.now in
     let l = length-map r.cols norm in
     let d = ap length p.1.1.1.1.1 in
-    let s = first-norm r (omega (arith, l, d, p.1.0, p.1.1.0)) p.1.1.1.1.1 in
+    let s = first_norm r (omega (arith, l, d, p.1.0, p.1.1.0)) p.1.1.1.1.1 in
     (ap (λ (i : ℕ). get_or g.diag.now i nan) c.before.before.before.before.before.before.before.before.before.before.before.before.before.before.imax-of.ensures.0 ∙ s ∙ ap (λ (z : Reduction). norm (get_or z.cols 0 [])) (sym x.ensures), x.ensures)
 
 pub first-pivot-spec : {M : Type 1} → statement M

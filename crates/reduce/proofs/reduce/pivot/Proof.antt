@@ -8,7 +8,7 @@ use lib.Seq.{take_all}
 use Rattle.leaves.specs.Vector.{imax_of}
 use Rattle.leaves.proofs.Folds.{nonzero}
 use Rattle.reduce.specs.inner.Bench.{grid, under_way}
-use Rattle.reduce.proofs.Pivots.{pivot-moves, pivot-stays}
+use Rattle.reduce.proofs.Pivots.{pivot_moves, pivot-stays}
 use Rattle.reduce.proofs.reduce.pivot.Statement.{statement}
 use Rattle.reduce.proofs.reduce.pivot.Tie as tie
 
@@ -74,7 +74,7 @@ returns-2 c =
     let p = nonzero _ c.before.before.before.before.before.before.before.before.before.before.before.before.before.before.if1.false in
     let l = simp (length-take, length-drop) at c.before.before.before.before.before.before.before.before.before.before.before.before.before.before.before.imax-of.ensures.1 in
     let x = c.before.before.before.before.before.before.swap-entries in
-    pivot-moves g.n g.j (g.j + c.before.before.before.before.before.before.before.before.before.before.before.before.before.before.before.imax-of.result) (grid g.m g.n g.bench.now) (omega arith) (omega arith) _ d g.work.now _ _ g.order.now _
+    pivot_moves g.n g.j (g.j + c.before.before.before.before.before.before.before.before.before.before.before.before.before.before.before.imax-of.result) (grid g.m g.n g.bench.now) (omega arith) (omega arith) _ d g.work.now _ _ g.order.now _
     (ap (λ (i : ℕ). g.j + i) e) c.before.before.before.before.before.before.before.before.before.before.before.before.swap-columns.ensures x.ensures.0 x.ensures.1.0 x.ensures.1.1
 
 pub pivot-spec : {M : Type 1} → statement M

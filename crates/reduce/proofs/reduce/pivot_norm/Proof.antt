@@ -9,7 +9,7 @@ use Rattle.leaves.specs.Norm.{norm, either, ranges}
 use Rattle.reduce.specs.Reduction.{Reduction}
 use Rattle.reduce.specs.inner.Bench.{grid, under_way}
 use Rattle.reduce.proofs.Begins.{kept-bench, bench-wide}
-use Rattle.reduce.proofs.Pivots.{first-seen}
+use Rattle.reduce.proofs.Pivots.{first_seen}
 use Rattle.reduce.proofs.reduce.pivot_norm.Statement.{statement}
 use Rattle.reduce.proofs.reduce.pivot_norm.Tie as tie
 
@@ -38,7 +38,7 @@ returns c =
     let z = c.before.before.before.before.before.before.before.before.before.before.before.before.before.if1.true in
     let r = under_way g.m g.n g.bench.now g.diag.now g.work.now g.order.now in
     let w = bench-wide g.m g.n g.bench.now in
-    let seen = first-seen r (omega (arith, w, p.1.0)) (p.1.1.1.1.1.1.0 z) (p.1.1.1.1.1.1.1 z) in
+    let seen = first_seen r (omega (arith, w, p.1.0)) (p.1.1.1.1.1.1.0 z) (p.1.1.1.1.1.1.1 z) in
     let there = ap (λ (q : Reduction). either g.seen (ranges (get_or q.cols 0 []))) (sym x.ensures.1) in
     rw z (x.ensures.0, (seen ∙ there, x.ensures.1))
 

@@ -6,10 +6,10 @@ use borrow.Author.Rules.{rules}
 use mathlib.Core.List.{map}
 use lib.ListN.{length}
 use Rattle.leaves.specs.Loop.{upto, along}
-use Rattle.leaves.proofs.Loops.{upto-none, upto_turn}
+use Rattle.leaves.proofs.Loops.{upto_none, upto_turn}
 use Rattle.leaves.specs.Norm.{norm, either, ranges_of}
 use Rattle.leaves.specs.declared.norm.Ranges.{Ranges}
-use Rattle.leaves.proofs.Seen.{along-none, along-turn}
+use Rattle.leaves.proofs.Seen.{along_none, along_turn}
 use Rattle.reduce.specs.Reduction.{Reduction, reduced, measured_at}
 use Rattle.reduce.specs.inner.Bench.{under_way}
 use Rattle.reduce.proofs.Begins.{kept-bench}
@@ -33,7 +33,7 @@ unseen : {r s : Reduction} {all : Ranges} (seen : Ranges) → r ≡ s → all �
 unseen seen e a h = a ∙ rw e h
 
 loop_holds : tie.Need-loop-init invariant-loop decreases-loop
-loop_holds c = let g = c.before.before.before.before.before.before.args in (search rules, c.least.ensures, refl, refl, refl, refl, refl, upto-none (reduced g.n) _, along-none (measured_at g.n) (reduced g.n) g.seen _)
+loop_holds c = let g = c.before.before.before.before.before.before.args in (search rules, c.least.ensures, refl, refl, refl, refl, refl, upto_none (reduced g.n) _, along_none (measured_at g.n) (reduced g.n) g.seen _)
 
 reduce-column-requires : tie.Need-reduce-column-requires invariant-loop decreases-loop
 reduce-column-requires c κs =
@@ -41,7 +41,7 @@ reduce-column-requires c κs =
     let l = c.before.before.before.before.before.before.loop in
     let p = c.before.before.before.before.before.before.before.before.before.before.before.before.before.requires in
     let t = c.before.before.before.before.before.loop-test.true in
-    (kept-bench p.0 l.invariant.2, (omega (arith, t, l.invariant.1), (omega (arith, t, l.invariant.1), (l.invariant.3 ∙ p.1.0, (l.invariant.4 ∙ p.1.1.0, (l.invariant.5 ∙ p.1.1.1.0, (l.invariant.6 ∙ p.1.1.1.1.0, (λ z. begun ((rw z at l.invariant.7) ∙ sym (upto-none (reduced g.n) _)) p.1.1.1.1.1.0, λ z. unseen g.seen ((rw z at l.invariant.7) ∙ sym (upto-none (reduced g.n) _)) ((rw z at l.invariant.8) ∙ sym (along-none (measured_at g.n) (reduced g.n) g.seen _)) p.1.1.1.1.1.1))))))))
+    (kept-bench p.0 l.invariant.2, (omega (arith, t, l.invariant.1), (omega (arith, t, l.invariant.1), (l.invariant.3 ∙ p.1.0, (l.invariant.4 ∙ p.1.1.0, (l.invariant.5 ∙ p.1.1.1.0, (l.invariant.6 ∙ p.1.1.1.1.0, (λ z. begun ((rw z at l.invariant.7) ∙ sym (upto_none (reduced g.n) _)) p.1.1.1.1.1.0, λ z. unseen g.seen ((rw z at l.invariant.7) ∙ sym (upto_none (reduced g.n) _)) ((rw z at l.invariant.8) ∙ sym (along_none (measured_at g.n) (reduced g.n) g.seen _)) p.1.1.1.1.1.1))))))))
 
 add-j : tie.Need-overflow-add-j invariant-loop decreases-loop
 add-j c = search rules
@@ -62,7 +62,7 @@ loop-again c =
       x.auto.1.1.1.1.1.1.0 ∙ l.invariant.5,
       x.auto.1.1.1.1.1.1.1.0 ∙ l.invariant.6,
       upto_turn (reduced g.n) l.j _ l.invariant.7 x.ensures.0,
-      along-turn (measured_at g.n) (reduced g.n) g.seen _ l.j l.invariant.8 l.invariant.7 x.ensures.1,
+      along_turn (measured_at g.n) (reduced g.n) g.seen _ l.j l.invariant.8 l.invariant.7 x.ensures.1,
     )
 
 same_length : tie.Need-same-length invariant-loop decreases-loop

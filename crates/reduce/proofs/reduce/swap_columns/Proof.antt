@@ -8,7 +8,7 @@ use lib.ListN.{length}
 use Rattle.reduce.specs.inner.Bench.{grid}
 use Rattle.leaves.proofs.Squares.{columns-length}
 use Rattle.leaves.proofs.Grids.{column_long}
-use Rattle.reduce.proofs.Pivots.{fronts, fronts-none, fronts-turn, fronts-all}
+use Rattle.reduce.proofs.Pivots.{fronts, fronts_none, fronts_turn, fronts_all}
 use Rattle.reduce.proofs.reduce.swap_columns.Statement.{statement}
 use Rattle.reduce.proofs.reduce.swap_columns.Tie as tie
 
@@ -22,7 +22,7 @@ loop_holds : tie.Need-loop-init invariant-loop decreases-loop
 loop_holds c =
     let g = c.before.args in
     let l = columns-length g.m (suc g.n) g.bench.now in
-    (search rules, refl, fronts-none g.j g.k (grid g.m g.n g.bench.now) (omega arith) (omega arith))
+    (search rules, refl, fronts_none g.j g.k (grid g.m g.n g.bench.now) (omega arith) (omega arith))
 
 swap-places-requires : tie.Need-swap-places-requires invariant-loop decreases-loop
 swap-places-requires c κs = search rules
@@ -43,7 +43,7 @@ loop-again c =
     let a = column_long g.m (suc g.n) b g.j (omega arith) (omega arith) in
     let z = column_long g.m (suc g.n) b g.k (omega arith) (omega arith) in
     let h = c.before.before.before.before.loop-test.true in
-    (search rules, search rules, x.ensures ∙ rw (l.invariant.2, add-one) (fronts-turn g.j g.k (grid g.m g.n b) (omega arith) (omega arith) l.i (omega arith) (omega arith)))
+    (search rules, search rules, x.ensures ∙ rw (l.invariant.2, add-one) (fronts_turn g.j g.k (grid g.m g.n b) (omega arith) (omega arith) l.i (omega arith) (omega arith)))
 
 same_length : tie.Need-same-length invariant-loop decreases-loop
 same_length c = search rules
@@ -55,7 +55,7 @@ returns c =
     let b = g.bench.now in
     let size = columns-length g.m (suc g.n) b in
     let e : l.i ≡ g.m = omega (arith, c.loop-test.false, l.invariant.0) in
-    l.invariant.2 ∙ rw e (fronts-all g.j g.k (grid g.m g.n b) (omega arith) (omega arith) g.m (column_long g.m (suc g.n) b g.j (omega arith) (omega arith)) (column_long g.m (suc g.n) b g.k (omega arith) (omega arith)))
+    l.invariant.2 ∙ rw e (fronts_all g.j g.k (grid g.m g.n b) (omega arith) (omega arith) g.m (column_long g.m (suc g.n) b g.j (omega arith) (omega arith)) (column_long g.m (suc g.n) b g.k (omega arith) (omega arith)))
 
 pub swap-columns-spec : {M : Type 1} → statement M
 swap-columns-spec =

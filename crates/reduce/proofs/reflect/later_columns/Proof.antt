@@ -8,8 +8,8 @@ use lib.ListN.{length}
 use Rattle.leaves.specs.Loop.{between, along_between}
 use Rattle.reduce.specs.Reduction.{later, measured_later}
 use Rattle.reduce.specs.inner.Bench.{Steps, Sees}
-use Rattle.leaves.proofs.Loops.{between_none, between-turn}
-use Rattle.leaves.proofs.Seen.{along-between-none, along-between-turn}
+use Rattle.leaves.proofs.Loops.{between_none, between_turn}
+use Rattle.leaves.proofs.Seen.{along_between_none, along_between_turn}
 use Rattle.reduce.proofs.Begins.{kept-bench}
 use Rattle.reduce.proofs.reflect.later_columns.Statement.{statement}
 use Rattle.reduce.proofs.reflect.later_columns.Tie as tie
@@ -27,7 +27,7 @@ loop_holds : tie.Need-loop-init invariant-loop decreases-loop
 loop_holds c =
     let g = c.before.before.before.before.args in
     let f = later g.j g.axis.now in
-    (search rules, search rules, refl, refl, refl, λ o. rw add-one (between_none f (suc g.j) _), λ o. rw add-one (along-between-none (measured_later g.j g.axis.now) f g.seen _ (suc g.j)))
+    (search rules, search rules, refl, refl, refl, λ o. rw add-one (between_none f (suc g.j) _), λ o. rw add-one (along_between_none (measured_later g.j g.axis.now) f g.seen _ (suc g.j)))
 
 later-column-requires : tie.Need-later-column-requires invariant-loop decreases-loop
 later-column-requires c κs =
@@ -51,8 +51,8 @@ loop-again c =
       x.auto.1.1.1.1.1.0 ∙ l.invariant.2,
       x.auto.1.1.1.1.1.1.0 ∙ l.invariant.3,
       x.auto.1.1.1.1.1.1.1.0 ∙ l.invariant.4,
-      λ o. between-turn (later g.j g.axis.now) (suc g.j) l.k _ l.invariant.0 (l.invariant.5 o) (x.ensures.0 o),
-      λ o. along-between-turn (measured_later g.j g.axis.now) (later g.j g.axis.now) g.seen _ (suc g.j) l.k l.invariant.0 (l.invariant.6 o) (l.invariant.5 o) (x.ensures.1 o),
+      λ o. between_turn (later g.j g.axis.now) (suc g.j) l.k _ l.invariant.0 (l.invariant.5 o) (x.ensures.0 o),
+      λ o. along_between_turn (measured_later g.j g.axis.now) (later g.j g.axis.now) g.seen _ (suc g.j) l.k l.invariant.0 (l.invariant.6 o) (l.invariant.5 o) (x.ensures.1 o),
     )
 
 same_length : tie.Need-same-length invariant-loop decreases-loop

@@ -9,7 +9,7 @@ use lib.Ieee.{of_bits}
 use Rattle.leaves.specs.Norm.{norm, ranges}
 use Rattle.reduce.specs.inner.Bench.{grid}
 use Rattle.leaves.proofs.Grids.{grid_read, tail_part}
-use Rattle.reduce.proofs.reflect.Reductions.{renewed-zero, renewed-anew, renewed-less, remeasured-zero, remeasured-anew, remeasured-less}
+use Rattle.reduce.proofs.reflect.Reductions.{renewed-zero, renewed_anew, renewed_less, remeasured-zero, remeasured_anew, remeasured_less}
 use Rattle.reduce.proofs.reflect.renew.Statement.{statement}
 use Rattle.reduce.proofs.reflect.renew.Tie as tie
 
@@ -107,9 +107,9 @@ returns-2 c =
     let x = grid_read g.m (suc g.n) g.bench.now g.k g.j q.result q.ensures.0 (omega arith) (omega arith) in
     let t = tail_part g.m (suc g.n) g.k (suc g.j) g.bench.now (q.result + 1) (q.result + (g.m - g.j) - (q.result + 1)) (omega arith) (omega arith) (omega arith) in
     let old = sym c.before.before.before.before.before.stale.ensures ∙ c.before.before.before.before.if2.true in (
-      renewed-anew g.j g.k col g.diag.now g.work.now _ c.before.before.before.before.before.before.before.shrunk.result _ c.before.before.before.before.before.before.before.before.before.before.if1.false x c.before.before.before.before.before.before.before.shrunk.ensures old (c.before.before.norm-of.ensures.0 ∙ ap norm t),
+      renewed_anew g.j g.k col g.diag.now g.work.now _ c.before.before.before.before.before.before.before.shrunk.result _ c.before.before.before.before.before.before.before.before.before.before.if1.false x c.before.before.before.before.before.before.before.shrunk.ensures old (c.before.before.norm-of.ensures.0 ∙ ap norm t),
       c.either.ensures
-          ∙ remeasured-anew g.j g.k col g.diag.now g.work.now g.seen _ c.before.before.before.before.before.before.before.shrunk.result _ c.before.before.before.before.before.before.before.before.before.before.if1.false x c.before.before.before.before.before.before.before.shrunk.ensures old (c.before.before.norm-of.ensures.1 ∙ ap ranges t),
+          ∙ remeasured_anew g.j g.k col g.diag.now g.work.now g.seen _ c.before.before.before.before.before.before.before.shrunk.result _ c.before.before.before.before.before.before.before.before.before.before.if1.false x c.before.before.before.before.before.before.before.shrunk.ensures old (c.before.before.norm-of.ensures.1 ∙ ap ranges t),
     )
 
 same-length-3 : tie.Need-same-length-3
@@ -123,8 +123,8 @@ returns-3 c =
     let col = get_or (grid g.m g.n g.bench.now) g.k [] in
     let x = grid_read g.m (suc g.n) g.bench.now g.k g.j q.result q.ensures.0 (omega arith) (omega arith) in
     let old = sym c.before.stale.ensures ∙ c.if2.false in (
-      renewed-less g.j g.k col g.diag.now g.work.now c.before.before.before.shrunk.result _ c.before.before.before.before.before.before.if1.false x c.before.before.before.shrunk.ensures old,
-      remeasured-less g.j g.k col g.diag.now g.work.now g.seen c.before.before.before.shrunk.result _ c.before.before.before.before.before.before.if1.false x c.before.before.before.shrunk.ensures old,
+      renewed_less g.j g.k col g.diag.now g.work.now c.before.before.before.shrunk.result _ c.before.before.before.before.before.before.if1.false x c.before.before.before.shrunk.ensures old,
+      remeasured_less g.j g.k col g.diag.now g.work.now g.seen c.before.before.before.shrunk.result _ c.before.before.before.before.before.before.if1.false x c.before.before.before.shrunk.ensures old,
     )
 
 pub renew-spec : {M : Type 1} → statement M

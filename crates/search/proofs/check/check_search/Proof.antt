@@ -4,7 +4,7 @@ use mathlib.Core.Bool.{not}
 use borrow.Author.Rules.{rules}
 use lib.Ieee.{of_bits}
 use lib.Seq.{length-take-le}
-use Rattle.search.proofs.check.Asking.{first-met, diag_long, diag-met, radius-met, lambda-met, above-met, below-met, zero-met, none_met}
+use Rattle.search.proofs.check.Asking.{first_met, diag_long, diag_met, radius_met, lambda_met, above_met, below_met, zero_met, none_met}
 use Rattle.search.proofs.check.check_search.Statement.{statement}
 use Rattle.search.proofs.check.check_search.Tie as tie
 
@@ -19,7 +19,7 @@ returns c =
     let g = c.before.before.before.before.before.args in
     let m = c.before.before.least.ensures in
     let e = c.before.ordered.ensures in
-    first-met g.st g.store g.order.now g.diag.now g.radius g.lambda g.out m e c.if1.true
+    first_met g.st g.store g.order.now g.diag.now g.radius g.lambda g.out m e c.if1.true
 
 slice-aggregate-all-finite : tie.Need-slice-aggregate-all-finite
 slice-aggregate-all-finite c =
@@ -36,7 +36,7 @@ returns-2 c =
     let g = c.before.before.before.before.before.before.before.before.args in
     let m = c.before.before.before.before.before.least.ensures in
     let e = c.before.before.before.before.ordered.ensures in
-    diag-met g.st g.store g.order.now g.diag.now g.radius g.lambda g.out m e c.before.before.before.if1.false (ap not (sym c.before.all-finite.ensures) ∙ c.if2.true)
+    diag_met g.st g.store g.order.now g.diag.now g.radius g.lambda g.out m e c.before.before.before.if1.false (ap not (sym c.before.all-finite.ensures) ∙ c.if2.true)
 
 is-finite-requires : tie.Need-is-finite-requires
 is-finite-requires c κs = search rules
@@ -46,7 +46,7 @@ returns-3 c =
     let g = c.before.before.before.before.before.before.before.before.before.before.args in
     let m = c.before.before.before.before.before.before.before.least.ensures in
     let e = c.before.before.before.before.before.before.ordered.ensures in
-    radius-met g.st g.store g.order.now g.diag.now g.radius g.lambda g.out m e c.before.before.before.before.before.if1.false (ap not (sym c.before.before.before.all-finite.ensures) ∙ c.before.before.if2.false) (ap not (sym c.before.is_finite.ensures) ∙ c.if3.true)
+    radius_met g.st g.store g.order.now g.diag.now g.radius g.lambda g.out m e c.before.before.before.before.before.if1.false (ap not (sym c.before.before.before.all-finite.ensures) ∙ c.before.before.if2.false) (ap not (sym c.before.is_finite.ensures) ∙ c.if3.true)
 
 is-finite-requires-2 : tie.Need-is-finite-requires-2
 is-finite-requires-2 c κs = search rules
@@ -56,7 +56,7 @@ returns-4 c =
     let g = c.before.before.before.before.before.before.before.before.before.before.before.before.args in
     let m = c.before.before.before.before.before.before.before.before.before.least.ensures in
     let e = c.before.before.before.before.before.before.before.before.ordered.ensures in
-    lambda-met g.st g.store g.order.now g.diag.now g.radius g.lambda g.out m e c.before.before.before.before.before.before.before.if1.false (ap not (sym c.before.before.before.before.before.all-finite.ensures) ∙ c.before.before.before.before.if2.false) (ap not (sym c.before.before.before.is_finite.ensures) ∙ c.before.before.if3.false) (ap not (sym c.before.is-finite2.ensures) ∙ c.if4.true)
+    lambda_met g.st g.store g.order.now g.diag.now g.radius g.lambda g.out m e c.before.before.before.before.before.before.before.if1.false (ap not (sym c.before.before.before.before.before.all-finite.ensures) ∙ c.before.before.before.before.if2.false) (ap not (sym c.before.before.before.is_finite.ensures) ∙ c.before.before.if3.false) (ap not (sym c.before.is-finite2.ensures) ∙ c.if4.true)
 
 returns-5 : tie.Need-returns-5
 unfolding of_bits
@@ -64,7 +64,7 @@ returns-5 c =
     let g = c.before.before.before.before.before.before.before.before.before.before.before.before.before.args in
     let m = c.before.before.before.before.before.before.before.before.before.before.least.ensures in
     let e = c.before.before.before.before.before.before.before.before.before.ordered.ensures in
-    above-met g.st g.store g.order.now g.diag.now g.radius g.lambda g.out m e c.before.before.before.before.before.before.before.before.if1.false (ap not (sym c.before.before.before.before.before.before.all-finite.ensures) ∙ c.before.before.before.before.before.if2.false) (ap not (sym c.before.before.before.before.is_finite.ensures) ∙ c.before.before.before.if3.false) (ap not (sym c.before.before.is-finite2.ensures) ∙ c.before.if4.false) c.if5.true
+    above_met g.st g.store g.order.now g.diag.now g.radius g.lambda g.out m e c.before.before.before.before.before.before.before.before.if1.false (ap not (sym c.before.before.before.before.before.before.all-finite.ensures) ∙ c.before.before.before.before.before.if2.false) (ap not (sym c.before.before.before.before.is_finite.ensures) ∙ c.before.before.before.if3.false) (ap not (sym c.before.before.is-finite2.ensures) ∙ c.before.if4.false) c.if5.true
 
 returns-6 : tie.Need-returns-6
 unfolding of_bits
@@ -72,7 +72,7 @@ returns-6 c =
     let g = c.before.before.before.before.before.before.before.before.before.before.before.before.before.before.args in
     let m = c.before.before.before.before.before.before.before.before.before.before.before.least.ensures in
     let e = c.before.before.before.before.before.before.before.before.before.before.ordered.ensures in
-    below-met g.st g.store g.order.now g.diag.now g.radius g.lambda g.out m e c.before.before.before.before.before.before.before.before.before.if1.false (ap not (sym c.before.before.before.before.before.before.before.all-finite.ensures) ∙ c.before.before.before.before.before.before.if2.false) (ap not (sym c.before.before.before.before.before.is_finite.ensures) ∙ c.before.before.before.before.if3.false) (ap not (sym c.before.before.before.is-finite2.ensures) ∙ c.before.before.if4.false) c.before.if5.false c.if6.true
+    below_met g.st g.store g.order.now g.diag.now g.radius g.lambda g.out m e c.before.before.before.before.before.before.before.before.before.if1.false (ap not (sym c.before.before.before.before.before.before.before.all-finite.ensures) ∙ c.before.before.before.before.before.before.if2.false) (ap not (sym c.before.before.before.before.before.is_finite.ensures) ∙ c.before.before.before.before.if3.false) (ap not (sym c.before.before.before.is-finite2.ensures) ∙ c.before.before.if4.false) c.before.if5.false c.if6.true
 
 slice-aggregate-none-zero : tie.Need-slice-aggregate-none-zero
 slice-aggregate-none-zero c =
@@ -98,7 +98,7 @@ returns-8 c =
     let g = c.before.before.before.before.before.before.before.before.before.before.before.before.before.before.before.before.before.args in
     let m = c.before.before.before.before.before.before.before.before.before.before.before.before.before.before.least.ensures in
     let e = c.before.before.before.before.before.before.before.before.before.before.before.before.before.ordered.ensures in
-    zero-met g.st g.store g.order.now g.diag.now g.radius g.lambda g.out m e c.before.before.before.before.before.before.before.before.before.before.before.before.if1.false (ap not (sym c.before.before.before.before.before.before.before.before.before.before.all-finite.ensures) ∙ c.before.before.before.before.before.before.before.before.before.if2.false) (ap not (sym c.before.before.before.before.before.before.before.before.is_finite.ensures) ∙ c.before.before.before.before.before.before.before.if3.false) (ap not (sym c.before.before.before.before.before.before.is-finite2.ensures) ∙ c.before.before.before.before.before.if4.false) c.before.before.before.before.if5.false c.before.before.before.if6.false (ap not (sym c.before.none-zero.ensures ∙ c.if7.false))
+    zero_met g.st g.store g.order.now g.diag.now g.radius g.lambda g.out m e c.before.before.before.before.before.before.before.before.before.before.before.before.if1.false (ap not (sym c.before.before.before.before.before.before.before.before.before.before.all-finite.ensures) ∙ c.before.before.before.before.before.before.before.before.before.if2.false) (ap not (sym c.before.before.before.before.before.before.before.before.is_finite.ensures) ∙ c.before.before.before.before.before.before.before.if3.false) (ap not (sym c.before.before.before.before.before.before.is-finite2.ensures) ∙ c.before.before.before.before.before.if4.false) c.before.before.before.before.if5.false c.before.before.before.if6.false (ap not (sym c.before.none-zero.ensures ∙ c.if7.false))
 
 pub check-search-spec : {M : Type 1} → statement M
 check-search-spec =

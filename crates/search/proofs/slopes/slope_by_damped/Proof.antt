@@ -4,7 +4,7 @@ use native.Mathlib.Omega.{arith}
 use borrow.Author.Rules.{rules}
 use Rattle.leaves.specs.Norm.{norm, ranges}
 use Rattle.factor.specs.declared.state.Held.TheVariants as held
-use Rattle.search.proofs.Workings.{few, order_long, order_below, held-damped-numbers, held-is}
+use Rattle.search.proofs.Workings.{few, order_long, order_below, held_damped-numbers, held_is}
 use Rattle.search.proofs.slopes.slope_by_damped.Statement.{statement}
 use Rattle.search.proofs.slopes.slope_by_damped.Tie as tie
 
@@ -28,7 +28,7 @@ returns : tie.Need-returns
 returns c =
     let g = c.before.before.before.before.before.before.before.before.before.before.before.before.before.before.before in
     let t = c.before.before.before.before.before.before.before.before.turn-into in
-    let u = held-is g.args.st g.args.store.now g.args.order.now g.requires.0 held.Damped g.args.norm g.args.v.now g.args.diag.now g.args.w.now _ g.requires.1.2 t.ensures (held-damped-numbers g.args.st g.args.store.now g.args.order.now g.requires.0 _ (t.auto.1.1.1.1.0 ∙ g.requires.1.2) c.before.before.before.before.held_damped.ensures) in
+    let u = held_is g.args.st g.args.store.now g.args.order.now g.requires.0 held.Damped g.args.norm g.args.v.now g.args.diag.now g.args.w.now _ g.requires.1.2 t.ensures (held_damped-numbers g.args.st g.args.store.now g.args.order.now g.requires.0 _ (t.auto.1.1.1.1.0 ∙ g.requires.1.2) c.before.before.before.before.held_damped.ensures) in
     (c.norm-of.ensures.0 ∙ ap norm u, c.norm-of.ensures.1 ∙ ap ranges u)
 
 pub slope-by-damped-spec : {M : Type 1} → statement M

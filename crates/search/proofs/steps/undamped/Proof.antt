@@ -3,7 +3,7 @@ use mathlib.Core.Path.{sym, ◌∙◌}
 use native.Mathlib.Omega.{arith}
 use borrow.Author.Rules.{rules}
 use Rattle.leaves.specs.Number.{plus_zero}
-use Rattle.search.proofs.Workings.{few, order_long, order_below, zero-numbers, undamped-placed, scaled-placed}
+use Rattle.search.proofs.Workings.{few, order_long, order_below, zero_numbers, undamped-placed, scaled-placed}
 use Rattle.search.proofs.steps.undamped.Statement.{statement}
 use Rattle.search.proofs.steps.undamped.Tie as tie
 
@@ -35,7 +35,7 @@ returns c =
       c.norm-of.ensures.0,
       (
         scaled-placed g.args.st g.args.store.now g.args.order.now g.requires.0 g.args.diag.now _ _ plus_zero g.requires.1.0 g.requires.1.1 l c.before.before.before.before.place-scaled.ensures,
-        (undamped-placed g.args.st g.args.store.now g.args.order.now g.requires.0 g.args.diag.now _ plus_zero (zero-numbers g.args.st g.args.store.now g.args.order.now g.requires.0 _ g.requires.1.2 z.ensures), c.norm-of.ensures.1),
+        (undamped-placed g.args.st g.args.store.now g.args.order.now g.requires.0 g.args.diag.now _ plus_zero (zero_numbers g.args.st g.args.store.now g.args.order.now g.requires.0 _ g.requires.1.2 z.ensures), c.norm-of.ensures.1),
       ),
     )
 

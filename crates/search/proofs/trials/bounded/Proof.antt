@@ -10,7 +10,7 @@ use Rattle.search.specs.Bounds.{lower_bound_of}
 use Rattle.search.specs.Search.{problem_of, concluded}
 use Rattle.search.specs.inner.Read.{unanswered}
 use Rattle.search.proofs.Seeing.{saw_same}
-use Rattle.search.proofs.trials.Bounding.{lower-asked, gnorm-asked, no_lower, no-gnorm, to-trials, first-is, asked-trials, lower-seen, gradient-seen, seen_first}
+use Rattle.search.proofs.trials.Bounding.{lower-asked, gnorm-asked, no_lower, no_gnorm, to_trials, first_is, asked-trials, lower-seen, gradient-seen, seen_first}
 use Rattle.search.proofs.trials.bounded.Statement.{statement}
 use Rattle.search.proofs.trials.bounded.Tie as tie
 
@@ -67,7 +67,7 @@ returns-2 c =
     let l = lower-asked g.args.st g.args.store.now g.args.order.now g.requires.0 g.args.diag.now g.requires.1.0.0 g.args.radius _ _ step g.args.v.now g.requires.1.1.0 g.requires.1.1.1 low.ensures.0
     ∙ ap (λ (x : Float). lower_bound_of asked step (sub binary64 x g.args.radius)) nrm in
     let q = gnorm-asked g.args.st g.args.store.now g.args.order.now g.requires.0 g.args.diag.now g.requires.1.0.0 g.args.radius c.before.before.before.before.gradient-norm.ensures.0 in
-    (no-gnorm asked g.args.lambda step unanswered l (sym c.before.before.before.before.before.before.before.before.is_finite.ensures ∙ not-false _ c.before.before.before.before.before.before.before.if1.false) q (sym c.before.is-finite2.ensures ∙ not-true _ c.if2.true), (refl, tt))
+    (no_gnorm asked g.args.lambda step unanswered l (sym c.before.before.before.before.before.before.before.before.is_finite.ensures ∙ not-false _ c.before.before.before.before.before.before.before.if1.false) q (sym c.before.is-finite2.ensures ∙ not-true _ c.if2.true), (refl, tt))
 
 upper-bound-requires : tie.Need-upper-bound-requires
 upper-bound-requires c κs = search rules
@@ -107,8 +107,8 @@ returns-3 c =
     ∙ ap (λ (x : Float). lower_bound_of asked step (sub binary64 x g.args.radius)) nrm in
     let q = gnorm-asked g.args.st g.args.store.now g.args.order.now g.requires.0 g.args.diag.now g.requires.1.0.0 g.args.radius grad.ensures.0 in
     let t = c.before.before.before.before.before.before.trials in
-    let f = first-is asked g.args.lambda step unanswered nrm l q c.before.before.before.before.before.before.before.before.before.before.before.before.before.before.before.before.upper-bound.ensures c.before.before.before.before.before.before.before.before.before.before.first-lambda.ensures in
-    let whole = to-trials asked g.args.lambda step unanswered l (sym c.before.before.before.before.before.before.before.before.before.before.before.before.before.before.before.before.before.before.before.before.before.before.before.before.before.is_finite.ensures ∙ not-false _ c.before.before.before.before.before.before.before.before.before.before.before.before.before.before.before.before.before.before.before.before.before.before.before.before.if1.false) q (sym c.before.before.before.before.before.before.before.before.before.before.before.before.before.before.before.before.before.before.is-finite2.ensures ∙ not-false _ c.before.before.before.before.before.before.before.before.before.before.before.before.before.before.before.before.before.if2.false) in
+    let f = first_is asked g.args.lambda step unanswered nrm l q c.before.before.before.before.before.before.before.before.before.before.before.before.before.before.before.before.upper-bound.ensures c.before.before.before.before.before.before.before.before.before.before.first-lambda.ensures in
+    let whole = to_trials asked g.args.lambda step unanswered l (sym c.before.before.before.before.before.before.before.before.before.before.before.before.before.before.before.before.before.before.before.before.before.before.before.before.before.is_finite.ensures ∙ not-false _ c.before.before.before.before.before.before.before.before.before.before.before.before.before.before.before.before.before.before.before.before.before.before.before.before.if1.false) q (sym c.before.before.before.before.before.before.before.before.before.before.before.before.before.before.before.before.before.before.is-finite2.ensures ∙ not-false _ c.before.before.before.before.before.before.before.before.before.before.before.before.before.before.before.before.before.if2.false) in
     let same = asked-trials asked _ _ _ f whole in
     let all = seen_first asked step g.args.start.seen _ _ c.before.before.before.before.before.before.before.before.before.before.before.either2.ensures c.before.before.before.before.before.before.before.before.before.before.before.before.either.ensures (lower-seen g.args.st g.args.store.now g.args.order.now g.requires.0 g.args.diag.now g.requires.1.0.0 g.args.radius _ step g.args.v.now g.requires.1.1.0 g.requires.1.1.1 low.ensures.1) (gradient-seen g.args.st g.args.store.now g.args.order.now g.requires.0 g.args.diag.now g.requires.1.0.0 g.args.radius grad.ensures.1) same in
     (t.ensures.0 ∙ ap (concluded 0 unanswered) same, (t.ensures.1.0, saw_same t.result t.ensures.1.1 all))

@@ -18,10 +18,10 @@ use Rattle.search.specs.Run.{Run, trials_from}
 use Rattle.search.specs.Measured.{measured_trials}
 use Rattle.search.specs.Search.{problem_of, concluded}
 use Rattle.search.specs.inner.Read.{Ready, unanswered, next_of, bare}
-use Rattle.search.proofs.Trying.{Tried, at-lambda, at-norm, at-ten, at-within, at-falling, at-correction, goes_on, again, next_same, mine, told}
+use Rattle.search.proofs.Trying.{Tried, at_lambda, at_norm, at_ten, at_within, at_falling, at_correction, goes_on, again, next_same, mine, told}
 use Rattle.search.proofs.Seeing.{seen_last, seen_again}
-use Rattle.search.proofs.Workings.{ready-after}
-use Rattle.search.proofs.trials.Turning.{step-asked, scaled-asked, damped-kept, correction-asked}
+use Rattle.search.proofs.Workings.{ready_after}
+use Rattle.search.proofs.trials.Turning.{step_asked, scaled-asked, damped-kept, correction-asked}
 use Rattle.search.proofs.trials.trials.Statement.{statement}
 use Rattle.search.proofs.trials.trials.Tie as tie
 
@@ -44,7 +44,7 @@ abbrev problem : tie.At-loop invariant-loop decreases-loop → Problem
 problem c = let g = c.before.before.before.before.before.before.args in problem_of g.st g.order.now g.diag.now g.radius (load g.st.n g.store.now)
 
 ready : (c : tie.At-loop invariant-loop decreases-loop) → Ready c.before.before.before.before.before.before.args.st c.loop.store c.before.before.before.before.before.before.args.order.now
-ready c = let g = c.before.before.before.before.before.before in ready-after g.args.st g.args.store.now g.args.order.now g.requires.0 c.loop.store c.loop.invariant.1
+ready c = let g = c.before.before.before.before.before.before in ready_after g.args.st g.args.store.now g.args.order.now g.requires.0 c.loop.store c.loop.invariant.1
 
 -- ---- after the solve
 abbrev at₁ : tie.After-damped invariant-loop decreases-loop → tie.At-loop invariant-loop decreases-loop
@@ -75,8 +75,8 @@ tried₁ c =
     let g = c.before.before.before.before.before.before.before.before.before.before.before.before.before in
     let d = c.damped.ensures in
     record {
-      lambda-is = c.before.before.before.before.before.before.raised_of.ensures;
-      step_is = step-asked g.args.st (at₁ c).loop.store g.args.order.now (ready (at₁ c)) g.args.diag.now g.requires.1.0 (lambda₁ c) g.args.radius (load g.args.st.n g.args.store.now) (at₁ c).loop.invariant.4 (w₁ c) d.1.1.0;
+      lambda_is = c.before.before.before.before.before.before.raised_of.ensures;
+      step_is = step_asked g.args.st (at₁ c).loop.store g.args.order.now (ready (at₁ c)) g.args.diag.now g.requires.1.0 (lambda₁ c) g.args.radius (load g.args.st.n g.args.store.now) (at₁ c).loop.invariant.4 (w₁ c) d.1.1.0;
       norm_is = d.0 ∙ ap norm (scaled₁ c);
     }
 
@@ -86,7 +86,7 @@ kept₁ c =
     damped-kept g.args.st (at₁ c).loop.store g.args.order.now (ready (at₁ c)) g.args.diag.now g.requires.1.0 (lambda₁ c) g.args.radius (load g.args.st.n g.args.store.now) (at₁ c).loop.invariant.4 (store₁ c) c.damped.ensures.1.1.1.0
 
 ready₁ : (c : tie.After-damped invariant-loop decreases-loop) → Ready c.before.before.before.before.before.before.before.before.before.before.before.before.before.args.st (store₁ c) c.before.before.before.before.before.before.before.before.before.before.before.before.before.args.order.now
-ready₁ c = let g = c.before.before.before.before.before.before.before.before.before.before.before.before.before in ready-after g.args.st (at₁ c).loop.store g.args.order.now (ready (at₁ c)) (store₁ c) c.damped.auto.1.0
+ready₁ c = let g = c.before.before.before.before.before.before.before.before.before.before.before.before.before in ready_after g.args.st (at₁ c).loop.store g.args.order.now (ready (at₁ c)) (store₁ c) c.damped.auto.1.0
 
 -- ---- after its norm, which is finite: what is seen so far
 abbrev at₂ : tie.After-either invariant-loop decreases-loop → tie.After-damped invariant-loop decreases-loop
@@ -196,7 +196,7 @@ same-length-3 c = c.before.before.before.loop.invariant.3
 returns : tie.Need-returns invariant-loop decreases-loop
 returns c =
     let l = c.before.before.before in
-    (sym (at-lambda (problem l) (next_of l.loop.s) l.loop.t unanswered (9 - l.loop.t) c.before.before.raised_of.ensures (sym c.before.is-finite.ensures ∙ not-true _ c.if1.true)) ∙ l.loop.invariant.5.0, (l.loop.invariant.4, tt))
+    (sym (at_lambda (problem l) (next_of l.loop.s) l.loop.t unanswered (9 - l.loop.t) c.before.before.raised_of.ensures (sym c.before.is-finite.ensures ∙ not-true _ c.if1.true)) ∙ l.loop.invariant.5.0, (l.loop.invariant.4, tt))
 
 same-length-4 : tie.Need-same-length-4 invariant-loop decreases-loop
 same-length-4 c = c.before.before.before.before.before.before.before.before.damped.auto.1.0 ∙ c.before.before.before.before.before.before.before.before.before.before.before.before.before.before.before.loop.invariant.1
@@ -211,7 +211,7 @@ returns-2 : tie.Need-returns-2 invariant-loop decreases-loop
 returns-2 c =
     let d = c.before.before.before.before.before.before.before.before in
     let l = c.before.before.before.before.before.before.before.before.before.before.before.before.before.before.before in
-    (sym (at-norm (problem l) (next_of l.loop.s) l.loop.t unanswered (tried₁ d) (finite₁ d) (9 - l.loop.t) (sym c.before.is-finite2.ensures ∙ not-true _ c.if2.true)) ∙ l.loop.invariant.5.0, (kept₁ d, tt))
+    (sym (at_norm (problem l) (next_of l.loop.s) l.loop.t unanswered (tried₁ d) (finite₁ d) (9 - l.loop.t) (sym c.before.is-finite2.ensures ∙ not-true _ c.if2.true)) ∙ l.loop.invariant.5.0, (kept₁ d, tt))
 
 same-length-7 : tie.Need-same-length-7 invariant-loop decreases-loop
 same-length-7 c = c.before.before.before.before.before.before.before.before.before.before.before.before.before.damped.auto.1.0 ∙ c.before.before.before.before.before.before.before.before.before.before.before.before.before.before.before.before.before.before.before.before.loop.invariant.1
@@ -228,7 +228,7 @@ returns-3 c =
     let d = c.before.before.before.before.before.before.before.before.before.before.before.before.before in
     let l = c.before.before.before.before.before.before.before.before.before.before.before.before.before.before.before.before.before.before.before.before in
     let n : 9 - l.loop.t ≡ 0 = omega (arith, l.loop.invariant.0, c.before.if3.true) in
-    let x = at-ten (problem l) (next_of l.loop.s) l.loop.t unanswered (tried₁ d) (finite₁ d) (finite₂ e) in
+    let x = at_ten (problem l) (next_of l.loop.s) l.loop.t unanswered (tried₁ d) (finite₁ d) (finite₂ e) in
     (rw (c.told.ensures, add-one) (sym x.0 ∙ (rw n at l.loop.invariant.5.0)), (kept₁ d, rw c.told.ensures (all₂ e _ x.1 (rw n at l.loop.invariant.5.1))))
 
 same-length-10 : tie.Need-same-length-10 invariant-loop decreases-loop
@@ -246,7 +246,7 @@ returns-4 c =
     let d = c.before.before.before.before.before.before.before.before.before.before.before.before.before.before.before in
     let l = c.before.before.before.before.before.before.before.before.before.before.before.before.before.before.before.before.before.before.before.before.before.before in
     let n : 9 - l.loop.t ≡ suc (9 - (l.loop.t + 1)) = omega (arith, l.loop.invariant.0, c.before.before.before.if3.false) in
-    let x = at-within (problem l) (next_of l.loop.s) l.loop.t unanswered (tried₁ d) (finite₁ d) (finite₂ e) (9 - (l.loop.t + 1)) refl (sym c.before.before.is_Within.ensures ∙ c.before.if4.true) in
+    let x = at_within (problem l) (next_of l.loop.s) l.loop.t unanswered (tried₁ d) (finite₁ d) (finite₂ e) (9 - (l.loop.t + 1)) refl (sym c.before.before.is_Within.ensures ∙ c.before.if4.true) in
     (rw (c.told2.ensures, add-one) (sym x.0 ∙ (rw n at l.loop.invariant.5.0)), (kept₁ d, rw c.told2.ensures (all₂ e _ x.1 (rw n at l.loop.invariant.5.1))))
 
 same-length-13 : tie.Need-same-length-13 invariant-loop decreases-loop
@@ -264,7 +264,7 @@ returns-5 c =
     let d = c.before.before.before.before.before.before.before.before.before.before.before.before.before.before.before.before.before in
     let l = c.before.before.before.before.before.before.before.before.before.before.before.before.before.before.before.before.before.before.before.before.before.before.before.before in
     let n : 9 - l.loop.t ≡ suc (9 - (l.loop.t + 1)) = omega (arith, l.loop.invariant.0, c.before.before.before.before.before.if3.false) in
-    let x = at-falling (problem l) (next_of l.loop.s) l.loop.t unanswered (tried₁ d) (finite₁ d) (finite₂ e) (9 - (l.loop.t + 1)) refl (sym c.before.before.before.before.is_Within.ensures ∙ c.before.before.before.if4.false) (sym c.before.before.is-falling.ensures ∙ c.before.if5.true) in
+    let x = at_falling (problem l) (next_of l.loop.s) l.loop.t unanswered (tried₁ d) (finite₁ d) (finite₂ e) (9 - (l.loop.t + 1)) refl (sym c.before.before.before.before.is_Within.ensures ∙ c.before.before.before.if4.false) (sym c.before.before.is-falling.ensures ∙ c.before.if5.true) in
     (rw (c.told3.ensures, add-one) (sym x.0 ∙ (rw n at l.loop.invariant.5.0)), (kept₁ d, rw c.told3.ensures (all₂ e _ x.1 (rw n at l.loop.invariant.5.1))))
 
 same-length-16 : tie.Need-same-length-16 invariant-loop decreases-loop
@@ -284,7 +284,7 @@ returns-6 c =
     let k = c.before.before.before.before.correction in
     let n : 9 - l.loop.t ≡ suc (9 - (l.loop.t + 1)) = omega (arith, l.loop.invariant.0, c.before.before.before.before.before.before.before.before.before.before.before.before.if3.false) in
     let q = correction-asked g.args.st l.loop.store g.args.order.now (ready l) g.args.diag.now g.requires.1.0 (lambda₁ d) g.args.radius (load g.args.st.n g.args.store.now) l.loop.invariant.4 (store₁ d) d.damped.ensures.1.1.1.0 _ _ (step₁ d) _ d.damped.ensures.0 (scaled₁ d) k.ensures.0 k.ensures.1 in (
-      sym (at-correction (problem l) (next_of l.loop.s) l.loop.t unanswered (tried₁ d) (finite₁ d) (finite₂ c.before.before.before.before.before.before.before.before.before.before.before.before.before) (9 - (l.loop.t + 1)) refl (sym c.before.before.before.before.before.before.before.before.before.before.before.is_Within.ensures ∙ c.before.before.before.before.before.before.before.before.before.before.if4.false) (sym c.before.before.before.before.before.before.before.before.before.is-falling.ensures ∙ c.before.before.before.before.before.before.before.before.if5.false) q.0 (sym c.before.is-finite3.ensures ∙ not-true _ c.if6.true)) ∙ (rw n at l.loop.invariant.5.0),
+      sym (at_correction (problem l) (next_of l.loop.s) l.loop.t unanswered (tried₁ d) (finite₁ d) (finite₂ c.before.before.before.before.before.before.before.before.before.before.before.before.before) (9 - (l.loop.t + 1)) refl (sym c.before.before.before.before.before.before.before.before.before.before.before.is_Within.ensures ∙ c.before.before.before.before.before.before.before.before.before.before.if4.false) (sym c.before.before.before.before.before.before.before.before.before.is-falling.ensures ∙ c.before.before.before.before.before.before.before.before.if5.false) q.0 (sym c.before.is-finite3.ensures ∙ not-true _ c.if6.true)) ∙ (rw n at l.loop.invariant.5.0),
       (kept₁ d, tt),
     )
 

@@ -8,7 +8,7 @@ use Rattle.factor.specs.Room.{load, lay, emptied}
 use Rattle.search.specs.Measured.{measured_by}
 use Rattle.search.specs.Search.{problem_of, answer_of}
 use Rattle.leaves.proofs.Overs.{lent_fits, lent_long}
-use Rattle.search.proofs.Calling.{call-is-refused, few, diag_long, out_long, ready, lent_back, call-is-run}
+use Rattle.search.proofs.Calling.{call_is_refused, few, diag_long, out_long, ready, lent_back, call_is_run}
 use Rattle.search.proofs.trust_region.determine_lambda_and_parameter_update.Statement.{statement}
 use Rattle.search.proofs.trust_region.determine_lambda_and_parameter_update.Tie as tie
 
@@ -18,7 +18,7 @@ check-search-requires c κs = search rules
 returns : tie.Need-returns
 returns c =
     let g = c.before.before.before.before.before.before.args in
-    call-is-refused g.st g.store.now g.order.now g.diag.now g.radius g.lambda g.out.now c.before.check-search.ensures c.if1.true
+    call_is_refused g.st g.store.now g.order.now g.diag.now g.radius g.lambda g.out.now c.before.check-search.ensures c.if1.true
 
 room16-requires : tie.Need-room16-requires
 room16-requires c κs = search rules
@@ -100,7 +100,7 @@ returns-2 c =
     let z = c.before.before.before.before.before.before.before.before.before.before.before.before.before.before.if1.false in
     let r = c.before.before.before.before.before.before.run-into in
     let asked = problem_of g.st g.order.now (take g.st.n g.diag.now) g.radius (load g.st.n g.store.now) in
-    call-is-run g.st g.store.now g.order.now g.diag.now g.radius g.lambda g.out.now e z (lent_back g.st g.st.n (lay (emptied (load g.st.n g.store.now))) g.out.now (ranges_of (measured_by asked g.lambda)) (answer_of asked g.lambda) (r.auto.1.1.1.1.1.1.1.1.0 ∙ length-take-le g.st.n g.out.now (out_long g.st g.store.now g.order.now g.diag.now g.radius g.lambda g.out.now e z)) r.ensures)
+    call_is_run g.st g.store.now g.order.now g.diag.now g.radius g.lambda g.out.now e z (lent_back g.st g.st.n (lay (emptied (load g.st.n g.store.now))) g.out.now (ranges_of (measured_by asked g.lambda)) (answer_of asked g.lambda) (r.auto.1.1.1.1.1.1.1.1.0 ∙ length-take-le g.st.n g.out.now (out_long g.st g.store.now g.order.now g.diag.now g.radius g.lambda g.out.now e z)) r.ensures)
 
 pub determine-lambda-and-parameter-update-spec : {M : Type 1} → statement M
 determine-lambda-and-parameter-update-spec =

@@ -7,7 +7,7 @@ use Rattle.leaves.specs.Norm.{norm, ranges}
 use Rattle.leaves.specs.Number.{plus_zero}
 use Rattle.factor.specs.Room.{load}
 use Rattle.search.specs.Search.{problem_of}
-use Rattle.search.proofs.trust_region.Answering.{no-norm, taken, taken-seen, not_taken, not-taken-seen, undamped-asked, scaled-asked, band_test}
+use Rattle.search.proofs.trust_region.Answering.{no_norm, taken, taken_seen, not_taken, not_taken_seen, undamped-asked, scaled-asked, band_test}
 use Rattle.search.proofs.trust_region.run.Statement.{statement}
 use Rattle.search.proofs.trust_region.run.Tie as tie
 
@@ -36,7 +36,7 @@ returns c =
     let asked = problem_of g.args.st g.args.order.now g.args.diag.now g.args.radius room in
     let step = undamped-asked g.args.st g.args.order.now g.args.diag.now plus_zero g.args.radius room w u.ensures.1.1.0 in
     let nrm = u.ensures.0 ∙ ap norm scaled in
-    (no-norm asked g.args.lambda step nrm (sym c.before.is_finite.ensures ∙ not-true _ c.if1.true), (refl, tt))
+    (no_norm asked g.args.lambda step nrm (sym c.before.is_finite.ensures ∙ not-true _ c.if1.true), (refl, tt))
 
 band-of-requires : tie.Need-band-of-requires
 band-of-requires c κs = search rules
@@ -63,7 +63,7 @@ returns-2 c =
     let nrm = u.ensures.0 ∙ ap norm scaled in
     let finite = sym c.before.before.before.before.is_finite.ensures ∙ not-false _ c.before.before.before.if1.false in
     let test = band_test _ _ c.before.before.band-of.ensures c.before.if2.true in
-    (taken asked g.args.lambda step nrm finite test, (refl, taken-seen asked g.args.lambda step nrm finite test (u.ensures.1.1.1 ∙ ap ranges scaled)))
+    (taken asked g.args.lambda step nrm finite test, (refl, taken_seen asked g.args.lambda step nrm finite test (u.ensures.1.1.1 ∙ ap ranges scaled)))
 
 bounded-requires : tie.Need-bounded-requires
 bounded-requires c κs =
@@ -96,7 +96,7 @@ returns-3 c =
     let k = c.before.before.before.before.before.before.bounded in
     let finite = sym c.before.before.before.before.before.before.before.before.before.before.before.before.before.is_finite.ensures ∙ not-false _ c.before.before.before.before.before.before.before.before.before.before.before.before.if1.false in
     let test = band_test _ _ c.before.before.before.before.before.before.before.before.before.before.before.band-of.ensures c.before.before.before.before.before.before.before.before.before.before.if2.false in
-    (not_taken asked g.args.lambda step nrm finite test k.ensures.0, (k.ensures.1.0, not-taken-seen asked g.args.lambda step nrm finite test k.result (u.ensures.1.1.1 ∙ ap ranges scaled) k.ensures.1.1))
+    (not_taken asked g.args.lambda step nrm finite test k.ensures.0, (k.ensures.1.0, not_taken_seen asked g.args.lambda step nrm finite test k.result (u.ensures.1.1.1 ∙ ap ranges scaled) k.ensures.1.1))
 
 pub run_spec : {M : Type 1} → statement M
 run_spec =

@@ -8,8 +8,8 @@ use Rattle.search.specs.Measured.{measured_by}
 use Rattle.search.specs.Search.{problem_of}
 use Rattle.search.specs.inner.Read.{with_step, Saw}
 use Rattle.search.specs.declared.trust_region.Found.{Found}
-use Rattle.search.proofs.Workings.{ready-after}
-use Rattle.search.proofs.Calling.{placing, placed-long, step-placed, step_written, not_written}
+use Rattle.search.proofs.Workings.{ready_after}
+use Rattle.search.proofs.Calling.{placing, placed_long, step_placed, step_written, not_written}
 use Rattle.search.proofs.trust_region.run_into.Statement.{statement}
 use Rattle.search.proofs.trust_region.run_into.Tie as tie
 
@@ -20,7 +20,7 @@ empty-requires : tie.Need-empty-requires
 empty-requires c κs =
     let g = c.before.before.before.before.before.before.before.before.before.before.before.before.before.before.before.before.before in
     let k = c.before.before.before.before.before.before.before.run in
-    ready-after g.args.st g.args.store.now g.args.order.now g.requires.0 k.new.1.0 k.auto.1.0
+    ready_after g.args.st g.args.store.now g.args.order.now g.requires.0 k.new.1.0 k.auto.1.0
 
 enum-known-found : tie.Need-enum-known-found
 enum-known-found c = search rules
@@ -59,7 +59,7 @@ returns c =
     let l = k.auto.1.1.1.1.1.1.1.0 ∙ g.requires.1.0.2 in
     let all = ranges_of (measured_by asked g.args.lambda) in
     let saw = subst (λ (x : Found). Saw x all) c.before.before.before.before.before.before.found.given.1 k.ensures.1.1 in
-    step_written g.args.st _ g.args.out.now _ step (sym (ap (λ (x : Found). with_step x step) c.before.before.before.before.before.before.found.given.1) ∙ k.ensures.0) saw (c.before.before.before.before.before.before.before.before.before.before.empty.ensures ∙ ap lay k.ensures.1.0) (step-placed g.args.st g.args.store.now g.args.order.now g.requires.0 g.args.diag.now g.args.radius room w l g.args.out.now g.requires.1.1 c.before.before.place.ensures) (placed-long g.args.st g.args.store.now g.args.order.now g.requires.0 g.args.diag.now g.args.radius room w l ∙ sym g.requires.1.1)
+    step_written g.args.st _ g.args.out.now _ step (sym (ap (λ (x : Found). with_step x step) c.before.before.before.before.before.before.found.given.1) ∙ k.ensures.0) saw (c.before.before.before.before.before.before.before.before.before.before.empty.ensures ∙ ap lay k.ensures.1.0) (step_placed g.args.st g.args.store.now g.args.order.now g.requires.0 g.args.diag.now g.args.radius room w l g.args.out.now g.requires.1.1 c.before.before.place.ensures) (placed_long g.args.st g.args.store.now g.args.order.now g.requires.0 g.args.diag.now g.args.radius room w l ∙ sym g.requires.1.1)
 
 same-length-5 : tie.Need-same-length-5
 same-length-5 c = search rules

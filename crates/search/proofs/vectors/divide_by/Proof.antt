@@ -7,7 +7,7 @@ use lib.ListN.{length, length-set, take}
 use Rattle.leaves.proofs.Folds.{front, front_turn, front_end}
 use Rattle.factor.specs.Solve.{gather}
 use Rattle.search.specs.Bounds.{quotients}
-use Rattle.search.proofs.Lists.{quotient-length, quotient-turn}
+use Rattle.search.proofs.Lists.{quotient_length, quotient_turn}
 use Rattle.search.proofs.vectors.divide_by.Statement.{statement}
 use Rattle.search.proofs.vectors.divide_by.Tie as tie
 
@@ -66,8 +66,8 @@ loop-again c =
     let p = c.before.before.before.before.before.requires in
     let g = c.before.before.before.before.before.args in
     let h : l.i < length g.w.now = omega (arith, c.before.before.before.loop-test.true, l.invariant.1) in
-    let s = quotient-length g.w.now g.order.now g.diag.now p.0.1 in
-    let at = quotient-turn g.w.now g.order.now g.diag.now p.0.1 l.w l.i h l.invariant.2 in
+    let s = quotient_length g.w.now g.order.now g.diag.now p.0.1 in
+    let at = quotient_turn g.w.now g.order.now g.diag.now p.0.1 l.w l.i h l.invariant.2 in
     (search rules, simp length-set l.invariant.1, front_turn (quotients g.w.now (gather (take (length g.w.now) g.order.now) g.diag.now)) _ l.w _ l.i (omega arith) s at l.invariant.2)
 
 same_length : tie.Need-same-length invariant-loop decreases-loop
@@ -78,7 +78,7 @@ returns c =
     let l = c.before.loop in
     let p = c.before.before.requires in
     let g = c.before.before.args in
-    let s = quotient-length g.w.now g.order.now g.diag.now p.0.1 in
+    let s = quotient_length g.w.now g.order.now g.diag.now p.0.1 in
     front_end (quotients g.w.now (gather (take (length g.w.now) g.order.now) g.diag.now)) _ l.w l.i s (omega (arith, c.loop-test.false, l.invariant.1)) l.invariant.2
 
 pub divide-by-spec : {M : Type 1} → statement M

@@ -1,6 +1,6 @@
 -- `sheet::check::check_numbers` meets its contract. Assumes nothing.
 use native.Mathlib.Omega.{arith}
-use Rattle.sheet.proofs.Testing.{rest_in, whole, rest-long, numbers-bad, numbers-good}
+use Rattle.sheet.proofs.Testing.{rest_in, whole, rest_long, numbers-bad, numbers_good}
 use borrow.Author.Rules.{part_to_end}
 use borrow.Author.Rules.{rules}
 use Rattle.sheet.proofs.check.check_numbers.Statement.{statement}
@@ -31,10 +31,10 @@ part-check-task-end : tie.Need-slice-bounds-check-task-end
 part-check-task-end c = let g = c.before.before.before in omega (arith, whole g.args.h g.args.xs.now g.requires.0 g.requires.1)
 
 check-task-requires : tie.Need-check-task-requires
-check-task-requires c κs = let g = c.before.before.before.before in rw (part_to_end g.args.xs.now) (rest-long g.args.h g.args.xs.now g.requires.0 g.requires.1)
+check-task-requires c κs = let g = c.before.before.before.before in rw (part_to_end g.args.xs.now) (rest_long g.args.h g.args.xs.now g.requires.0 g.requires.1)
 
 returns-2 : tie.Need-returns-2
-returns-2 c = let g = c.before.before.before.before.before in numbers-good g.args.h g.args.xs.now g.requires.0 g.requires.1 c.before.before.before.all-finite.ensures c.before.before.if1.false c.check-task.ensures
+returns-2 c = let g = c.before.before.before.before.before in numbers_good g.args.h g.args.xs.now g.requires.0 g.requires.1 c.before.before.before.all-finite.ensures c.before.before.if1.false c.check-task.ensures
 
 pub check-numbers-spec : {M : Type 1} → statement M
 check-numbers-spec =

@@ -2,7 +2,7 @@
 use native.Mathlib.Omega.{arith}
 use mathlib.Core.Path.{sym}
 use Rattle.sheet.proofs.Testing.{search_ends, start_ends}
-use Rattle.sheet.proofs.job.Jobs.{as-search, as-start}
+use Rattle.sheet.proofs.job.Jobs.{as_search, as_start}
 use lib.Seq.{length-take-le}
 use borrow.Author.Rules.{rules}
 use Rattle.sheet.proofs.job.task.Statement.{statement}
@@ -38,7 +38,7 @@ same-length-2 c = search rules
 returns : tie.Need-returns
 returns c =
     let g = c.before.before.before.before.before.before.before.before.before.before.before.before.before.before.before.args in
-    as-search g.call g.n g.rest.now g.st g.order.now g.store.now g.step.now c.before.before.before.before.before.before.before.before.before.before.if1.true c.before.before.before.before.search.ensures
+    as_search g.call g.n g.rest.now g.st g.order.now g.store.now g.step.now c.before.before.before.before.before.before.before.before.before.before.if1.true c.before.before.before.before.search.ensures
 
 mul-bound : tie.Need-overflow-mul-bound
 mul-bound c = search rules
@@ -61,7 +61,7 @@ same-length-4 c = search rules
 returns-2 : tie.Need-returns-2
 returns-2 c =
     let g = c.before.before.before.before.before.before.before.before.before.before.before.before.before.before.args in
-    as-start g.call g.n g.rest.now g.st g.order.now g.store.now g.step.now c.before.before.before.before.before.before.before.before.before.if1.false c.before.before.before.before.start.ensures
+    as_start g.call g.n g.rest.now g.st g.order.now g.store.now g.step.now c.before.before.before.before.before.before.before.before.before.if1.false c.before.before.before.before.start.ensures
 
 pub task-spec : {M : Type 1} → statement M
 task-spec =

@@ -1,8 +1,8 @@
 -- `sheet::job::work_in` meets its contract. Assumes nothing.
 use native.Mathlib.Omega.{arith}
 use mathlib.Core.Path.{sym}
-use Rattle.sheet.proofs.Testing.{rest_in, whole, rest-long}
-use Rattle.sheet.proofs.job.Jobs.{work-on, work-refused}
+use Rattle.sheet.proofs.Testing.{rest_in, whole, rest_long}
+use Rattle.sheet.proofs.job.Jobs.{work_on, work-refused}
 use lib.Seq.{length-take-le}
 use borrow.Author.Rules.{part_to_end}
 use borrow.Author.Rules.{rules}
@@ -49,7 +49,7 @@ part-task-end : tie.Need-slice-bounds-task-end
 part-task-end c = search rules
 
 task-requires : tie.Need-task-requires
-task-requires c κs = rw (part_to_end c.before.before.before.before.before.before.before.before.before.before.before.before.before.before.before.before.before.before.before.before.before.before.before.before.args.xs.now) (rest-long c.before.before.before.before.before.before.before.before.before.before.before.before.before.before.before.before.before.before.before.before.before.before.before.before.args.h c.before.before.before.before.before.before.before.before.before.before.before.before.before.before.before.before.before.before.before.before.before.before.before.before.args.xs.now c.before.before.before.before.before.before.before.before.before.before.before.before.before.before.before.before.before.before.before.before.before.before.before.before.requires.0 c.before.before.before.before.before.before.before.before.before.before.before.before.before.before.before.before.before.before.before.before.before.before.before.before.requires.1)
+task-requires c κs = rw (part_to_end c.before.before.before.before.before.before.before.before.before.before.before.before.before.before.before.before.before.before.before.before.before.before.before.before.args.xs.now) (rest_long c.before.before.before.before.before.before.before.before.before.before.before.before.before.before.before.before.before.before.before.before.before.before.before.before.args.h c.before.before.before.before.before.before.before.before.before.before.before.before.before.before.before.before.before.before.before.before.before.before.before.before.args.xs.now c.before.before.before.before.before.before.before.before.before.before.before.before.before.before.before.before.before.before.before.before.before.before.before.before.requires.0 c.before.before.before.before.before.before.before.before.before.before.before.before.before.before.before.before.before.before.before.before.before.before.before.before.requires.1)
 
 enum-known-told : tie.Need-enum-known-told
 enum-known-told c = search rules
@@ -69,7 +69,7 @@ same-length-4 c = search rules
 returns : tie.Need-returns
 returns c =
     let g = c.before.before.before.before.before.before.before.before.before.before.before.before.before.before.before.before.before.before.before.before.before.before.before.before.before.before.before.before.before in
-    work-on g.args.h g.args.xs.now g.args.store.now g.args.order.now g.args.bench.now g.args.step.now g.requires.0 g.requires.1 c.before.before.before.before.before.before.before.before.before.before.before.before.before.before.before.before.before.before.pivoted-qr.ensures c.before.before.before.before.before.before.before.before.before.enum_told.given.1 c.before.before.before.before.task.ensures
+    work_on g.args.h g.args.xs.now g.args.store.now g.args.order.now g.args.bench.now g.args.step.now g.requires.0 g.requires.1 c.before.before.before.before.before.before.before.before.before.before.before.before.before.before.before.before.before.before.pivoted-qr.ensures c.before.before.before.before.before.before.before.before.before.enum_told.given.1 c.before.before.before.before.task.ensures
 
 same-length-5 : tie.Need-same-length-5
 same-length-5 c = search rules

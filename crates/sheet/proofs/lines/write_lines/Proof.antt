@@ -3,7 +3,7 @@ use native.Mathlib.Omega.{arith}
 use mathlib.Core.Path.{◌≡◌, sym}
 use lib.ListN.{length}
 use lib.Seq.{length-take-le}
-use Rattle.sheet.proofs.Printing.{taken, lines-refused, lines-printed}
+use Rattle.sheet.proofs.Printing.{taken, lines_refused, lines_printed}
 use Rattle.sheet.specs.Fit.{fit_of}
 use borrow.Author.Rules.{rules}
 use Rattle.sheet.proofs.lines.write_lines.Statement.{statement}
@@ -13,7 +13,7 @@ check-lines-requires : tie.Need-check-lines-requires
 check-lines-requires c κs = search rules
 
 returns : tie.Need-returns
-returns c = lines-refused (fit_of c.before.before.before.before.args.a) c.before.before.before.before.args.step.now c.before.before.before.before.args.text.now c.before.check-lines.ensures c.if1.true
+returns c = lines_refused (fit_of c.before.before.before.before.args.a) c.before.before.before.before.args.step.now c.before.before.before.before.args.text.now c.before.check-lines.ensures c.if1.true
 
 text-room-requires : tie.Need-text-room-requires
 text-room-requires c κs = search rules
@@ -40,7 +40,7 @@ returns-2 : tie.Need-returns-2
 returns-2 c =
     let n = c.before.before.before.before.before.before.answer-lines in
     let l : length c.before.before.before.before.before.before.before.before.text-room.result ≡ 1024 = c.before.before.before.before.before.before.before.before.text-room.ensures in
-    lines-printed (fit_of c.before.before.before.before.before.before.before.before.before.before.before.before.before.args.a) c.before.before.before.before.before.before.before.before.before.before.before.before.before.args.step.now c.before.before.before.before.before.before.before.before.before.before.before.before.before.args.text.now c.before.before.before.before.before.before.before.before.before.before.check-lines.ensures c.before.before.before.before.before.before.before.before.before.if1.false (taken _ c.before.before.before.before.before.before.before.before.text-room.result n.ensures.0 (omega (arith, n.ensures.1))) c.before.before.print.ensures
+    lines_printed (fit_of c.before.before.before.before.before.before.before.before.before.before.before.before.before.args.a) c.before.before.before.before.before.before.before.before.before.before.before.before.before.args.step.now c.before.before.before.before.before.before.before.before.before.before.before.before.before.args.text.now c.before.before.before.before.before.before.before.before.before.before.check-lines.ensures c.before.before.before.before.before.before.before.before.before.if1.false (taken _ c.before.before.before.before.before.before.before.before.text-room.result n.ensures.0 (omega (arith, n.ensures.1))) c.before.before.print.ensures
 
 pub write-lines-spec : {M : Type 1} → statement M
 write-lines-spec =

@@ -1,7 +1,7 @@
 -- `sheet::number::doubles_into` meets its contract. Assumes nothing.
 use borrow.Author.Rules.{rules}
 use native.Mathlib.Omega.{arith}
-use Rattle.sheet.proofs.Packed.{after, read-turn, read-end}
+use Rattle.sheet.proofs.Packed.{after, read_turn, read_end}
 use Prim.Native.Nat.{◌-◌, ◌≤◌}
 use mathlib.Core.Path.{◌≡◌, refl, sym, ◌∙◌}
 use lib.ListN.{length, length-set}
@@ -47,7 +47,7 @@ loop-again c =
     let g = c.before.before.before.before.before.before.args in (
       search rules,
       length-set l.out l.i _ ∙ l.invariant.1,
-      read-turn g.s.now l.out _ l.i (omega arith) (sym l.invariant.1) c.before.word_at.ensures c.of-bits.ensures ∙ l.invariant.2,
+      read_turn g.s.now l.out _ l.i (omega arith) (sym l.invariant.1) c.before.word_at.ensures c.of-bits.ensures ∙ l.invariant.2,
     )
 
 same_length : tie.Need-same-length invariant-loop decreases-loop
@@ -58,7 +58,7 @@ returns c =
     let l = c.before.loop in
     let g = c.before.before.before.before.args in
     let z : length g.out.now - 0 ≡ length g.out.now = omega arith in
-    sym (read-end g.s.now l.out _ l.i (omega arith) (sym l.invariant.1)) ∙ (rw z at l.invariant.2)
+    sym (read_end g.s.now l.out _ l.i (omega arith) (sym l.invariant.1)) ∙ (rw z at l.invariant.2)
 
 pub doubles-into-spec : {M : Type 1} → statement M
 doubles-into-spec =

@@ -1,5 +1,5 @@
 -- `sheet::seek::seek` meets its contract. Assumes nothing.
-use Rattle.sheet.proofs.seek.Seeking.{sought-on, sought-refused}
+use Rattle.sheet.proofs.seek.Seeking.{sought_on, sought-refused}
 use borrow.Author.Rules.{rules}
 use Rattle.sheet.proofs.seek.seek.Statement.{statement}
 use Rattle.sheet.proofs.seek.seek.Tie as tie
@@ -25,7 +25,7 @@ same-length-2 c = search rules
 returns : tie.Need-returns
 returns c =
     let g = c.before.before.before.before.before.before.before.before.before.before.before.before.before.before.before.before.before.before.args in
-    sought-on g.st g.order.now g.diag.now g.radius g.lambda g.store.now g.step.now c.before.before.before.before.before.before.before.before.before.before.before.before.determined.ensures c.before.before.before.before.before.before.before.before.place.given.1 c.before.before.before.before.seek-from.ensures
+    sought_on g.st g.order.now g.diag.now g.radius g.lambda g.store.now g.step.now c.before.before.before.before.before.before.before.before.before.before.before.before.determined.ensures c.before.before.before.before.before.before.before.before.place.given.1 c.before.before.before.before.seek-from.ensures
 
 same-length-3 : tie.Need-same-length-3
 same-length-3 c = search rules

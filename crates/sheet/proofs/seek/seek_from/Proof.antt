@@ -4,9 +4,9 @@ use borrow.Author.Rules.{rules}
 use Rattle.sheet.proofs.seek.seek_from.Statement.{statement}
 use Rattle.sheet.proofs.seek.seek_from.Tie as tie
 
-determine-lambda-and-parameter-update-requires :
+determine_lambda_and_parameter_update_requires :
     tie.Need-determine-lambda-and-parameter-update-requires
-determine-lambda-and-parameter-update-requires c κs = search rules
+determine_lambda_and_parameter_update_requires c κs = search rules
 
 enum-known-found : tie.Need-enum-known-found
 enum-known-found c = search rules
@@ -36,7 +36,7 @@ pub seek-from-spec : {M : Type 1} → statement M
 seek-from-spec =
     tie.close
     (tie.spec
-    determine-lambda-and-parameter-update-requires
+    determine_lambda_and_parameter_update_requires
     enum-known-found
     enum-known-found-2
     same_length

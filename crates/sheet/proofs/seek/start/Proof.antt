@@ -1,5 +1,5 @@
 -- `sheet::seek::start` meets its contract. Assumes nothing.
-use Rattle.sheet.proofs.seek.Seeking.{started-on, started-later, started-refused}
+use Rattle.sheet.proofs.seek.Seeking.{started_on, started-later, started-refused}
 use lib.Ieee.{of_bits}
 use borrow.Author.Rules.{rules}
 use Rattle.sheet.proofs.seek.start.Statement.{statement}
@@ -42,7 +42,7 @@ returns : tie.Need-returns
 unfolding of_bits
 returns c =
     let g = c.before.before.before.before.before.before.before.before.before.before.before.before.before.before.before.before.before.before.before.before.before.before.before.args in
-    started-on g.st g.order.now g.x.now g.bound g.store.now g.step.now c.before.before.before.before.before.before.before.before.before.before.before.before.before.before.before.before.before.before.columns.ensures c.before.before.before.before.before.before.before.before.before.before.before.before.before.before.before.update-diag.ensures c.before.before.before.before.before.before.before.before.before.before.scaling.given.1 c.before.before.before.before.before.seek.result c.before.before.before.before.before.seek.ensures c.as-started.ensures
+    started_on g.st g.order.now g.x.now g.bound g.store.now g.step.now c.before.before.before.before.before.before.before.before.before.before.before.before.before.before.before.before.before.before.columns.ensures c.before.before.before.before.before.before.before.before.before.before.before.before.before.before.before.update-diag.ensures c.before.before.before.before.before.before.before.before.before.before.scaling.given.1 c.before.before.before.before.before.seek.result c.before.before.before.before.before.seek.ensures c.as-started.ensures
 
 same-length-3 : tie.Need-same-length-3
 same-length-3 c = search rules

@@ -1,5 +1,5 @@
 -- `text::read::number` meets its contract. Assumes nothing.
-use Rattle.text.proofs.read.Reading.{is_small_lem, number-stop, number-over, number-go, number-end}
+use Rattle.text.proofs.read.Reading.{is_small_lem, number_stop, number_over, number_go, number_end}
 use Prim.Native.Nat.{◌-◌}
 use mathlib.Core.Path.{◌≡◌, refl, sym, ◌∙◌}
 use native.Mathlib.Omega.{arith}
@@ -36,12 +36,12 @@ stop-requires c κs = search rules
 returns : tie.Need-returns invariant-loop decreases-loop
 returns c =
     let l = c.before.before.before.before.before.before.loop in
-    number-stop _ _ l.v l.i _ _ c.before.before.before.before.before.loop-test.true (sym c.before.before.before.value.ensures ∙ c.before.enum_told.given.1) c.stop.ensures l.invariant
+    number_stop _ _ l.v l.i _ _ c.before.before.before.before.before.loop-test.true (sym c.before.before.before.value.ensures ∙ c.before.enum_told.given.1) c.stop.ensures l.invariant
 
 returns-2 : tie.Need-returns-2 invariant-loop decreases-loop
 returns-2 c =
     let l = c.before.before.before.before.before.before.before.loop in
-    number-over _ _ l.v l.i _ _ c.before.before.before.before.before.before.loop-test.true (sym c.before.before.before.before.value.ensures ∙ c.before.before.d.given.1) c.if1.true l.invariant
+    number_over _ _ l.v l.i _ _ c.before.before.before.before.before.before.loop-test.true (sym c.before.before.before.before.value.ensures ∙ c.before.before.d.given.1) c.if1.true l.invariant
 
 mul-v : tie.Need-overflow-mul-v invariant-loop decreases-loop
 mul-v c = search rules
@@ -58,13 +58,13 @@ loop-less c = search rules
 loop-again : tie.Need-loop-preserved invariant-loop decreases-loop
 loop-again c =
     let l = c.before.before.before.before.before.before.before.loop in
-    number-go _ _ l.v l.i _ _ c.before.before.before.before.before.before.loop-test.true (sym c.before.before.before.before.value.ensures ∙ c.before.before.d.given.1) c.if1.false l.invariant
+    number_go _ _ l.v l.i _ _ c.before.before.before.before.before.before.loop-test.true (sym c.before.before.before.before.value.ensures ∙ c.before.before.d.given.1) c.if1.false l.invariant
 
 end-requires : tie.Need-end-requires invariant-loop decreases-loop
 end-requires c κs = search rules
 
 returns-3 : tie.Need-returns-3 invariant-loop decreases-loop
-returns-3 c = let l = c.before.before.loop in number-end _ _ l.v l.i _ _ c.before.loop-test.false c.end.ensures l.invariant
+returns-3 c = let l = c.before.before.loop in number_end _ _ l.v l.i _ _ c.before.loop-test.false c.end.ensures l.invariant
 
 pub number-spec : {M : Type 1} → statement M
 number-spec =
