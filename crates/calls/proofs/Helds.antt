@@ -38,14 +38,14 @@ each_fits st store order shortest e =
 
 -- ---- what the call on the reduced problem left, read as one of the lent problem
 module _ (st : State) (store out : List Float) (e : plain.Ended (Unit {0})) {a : Reply (Unit {0})} {x : List Float} (h : read a x ≡ plain.read_of e) where
-  read_back : read a (held_out st a x out) ≡ marked_read (held_by st store out e)
-  read_back = ap (λ (z : Read). read z.reply (held_out st z.reply z.out out)) h
+  read_back_lem : read a (held_out st a x out) ≡ marked_read (held_by st store out e)
+  read_back_lem = ap (λ (z : Read). read z.reply (held_out st z.reply z.out out)) h
 
   pub held-answered : {o : List Float} → a ≡ answered tt → o ≡ written (padded st.n x) out → read (answered tt) o ≡ marked_read (held_by st store out e)
-  held-answered q w = rw w (rw q at read_back)
+  held-answered q w = rw w (rw q at read_back_lem)
 
   pub held-refused : (k : ℕ) → a ≡ refused k → read (refused k) out ≡ marked_read (held_by st store out e)
-  held-refused k q = rw q at read_back
+  held-refused k q = rw q at read_back_lem
 
 -- and its store, work +0
 held-rested : (st : State) (store out : List Float) (e : plain.Ended (Unit {0})) {a : Reply (Unit {0})} {s o : List Float} → read a o ≡ marked_read (held_by st store out e)

@@ -15,7 +15,7 @@ use Rattle.leaves.proofs.Refusals.{numbered, passed_iff, stopped, went_to}
 use Rattle.leaves.proofs.Insides.{neither}
 use Rattle.frozen.specs.Frozen.{free_of}
 use Rattle.factor.specs.State.{store_need}
-use Rattle.factor.specs.Tests.{finite_test, finite_not_nan, not_above, below}
+use Rattle.factor.specs.Tests.{finite_test, finite_number, not_above, below}
 use Rattle.measures.specs.Measures as plain
 use Rattle.calls.specs.declared.state.State.{State}
 use Rattle.calls.specs.State.{marks_in, cols, whole, without_frozen}
@@ -40,7 +40,7 @@ rank_ready st store e z = room_ready st store st.n [] refl (sym e ∙ z)
 -- ---- the gradient: the order list is the one slice that holds a number for each column
 abbrev pub gradient_tests : State → ℕ → List ℕ → Float → List Test
 gradient_tests st store order bnorm =
-    marked_room_tests st store (length order) ++ (form_test st order ∷ finite_not_nan bnorm ∷ (not_above bnorm, 7) ∷ free_test st ∷ [])
+    marked_room_tests st store (length order) ++ (form_test st order ∷ finite_number bnorm ∷ (not_above bnorm, 7) ∷ free_test st ∷ [])
 
 pub gradient_first : (st : State) (store : ℕ) (order : List ℕ) {c : ℕ} → c ≡ first_of (marked_solve_tests st store order (length order))
     → c ≡ first_of (marked_room_tests st store (length order) ++ (form_test st order ∷ []))
@@ -48,11 +48,11 @@ gradient_first st store order e = e ∙ rw (min-eq_left (le_refl (length order))
 
 pub gradient_ready : (st : State) (store : List Float) (order : List ℕ) (bnorm : Float) {c : ℕ} → c ≡ first_of (gradient_tests st (length store) order bnorm) → c ≡ 0
     → Ready st store (length order)
-gradient_ready st store order bnorm e z = room_ready st store (length order) (form_test st order ∷ finite_not_nan bnorm ∷ (not_above bnorm, 7) ∷ []) refl (sym e ∙ z)
+gradient_ready st store order bnorm e z = room_ready st store (length order) (form_test st order ∷ finite_number bnorm ∷ (not_above bnorm, 7) ∷ []) refl (sym e ∙ z)
 
 -- ---- the question beside it (02, #105): its own tests, after the order list's
 abbrev pub limit_tests : State → Float → Float → List Test
-limit_tests st bnorm limit = finite_not_nan bnorm ∷ finite_not_nan limit ∷ (not_above bnorm, 7) ∷ (below limit, 7) ∷ free_test st ∷ []
+limit_tests st bnorm limit = finite_number bnorm ∷ finite_number limit ∷ (not_above bnorm, 7) ∷ (below limit, 7) ∷ free_test st ∷ []
 
 module _ (st : State) (store : ℕ) (order : List ℕ) (bnorm limit : Float) where
   abbrev ordered : List Test
@@ -68,7 +68,7 @@ module _ (st : State) (store : ℕ) (order : List ℕ) (bnorm limit : Float) whe
 pub above_ready : (st : State) (store : List Float) (order : List ℕ) (bnorm limit : Float) {c : ℕ} → c ≡ first_of (marked_above_tests st (length store) order bnorm limit) → c ≡ 0
     → Ready st store (length order)
 above_ready st store order bnorm limit e z =
-    room_ready st store (length order) (form_test st order ∷ finite_not_nan bnorm ∷ finite_not_nan limit ∷ (not_above bnorm, 7) ∷ (below limit, 7) ∷ []) refl (sym e ∙ z)
+    room_ready st store (length order) (form_test st order ∷ finite_number bnorm ∷ finite_number limit ∷ (not_above bnorm, 7) ∷ (below limit, 7) ∷ []) refl (sym e ∙ z)
 
 -- ---- the norm of Jx
 abbrev pub jx_tests : State → ℕ → List ℕ → List Float → List Test

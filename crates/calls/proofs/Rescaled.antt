@@ -12,7 +12,7 @@ use Rattle.leaves.specs.Tests.{first_of}
 use Rattle.frozen.specs.Frozen.{free_of}
 use Rattle.frozen.specs.Moved.{gather_call}
 use Rattle.frozen.specs.Narrowed.{narrowed}
-use Rattle.factor.specs.Tests.{finite_test, finite_not_nan, not_above}
+use Rattle.factor.specs.Tests.{finite_test, finite_number, not_above}
 use Rattle.factor.specs.Outcome as outcome
 use Rattle.factor.specs.declared.state.State.{State as Plain}
 use Rattle.measures.specs.Rescale.{Scaled}
@@ -55,7 +55,7 @@ Lent st md store diag x = Ready st store (length diag) × (parameters_read md st
 first_ready : (st : State) (store diag x : List Float) (bound : Float) → first_of (marked_first_tests st (length store) diag x bound) ≡ 0
     → Ready st store (length diag) × (st.n ≤ length x)
 first_ready st store diag x bound e =
-    let r = room_ready st store (min (length diag) (length x)) (finite_test (whole st) x ∷ finite_not_nan bound ∷ (not_above bound, 7) ∷ []) refl e in
+    let r = room_ready st store (min (length diag) (length x)) (finite_test (whole st) x ∷ finite_number bound ∷ (not_above bound, 7) ∷ []) refl e in
     let l = r.each_long in
     (record { filled = r.filled; sizes = r.sizes; reducible = r.reducible; each_long = omega arith }, omega arith)
 

@@ -17,7 +17,7 @@ use Rattle.leaves.proofs.Refusals.{stopped, test_met, went_to, past, passed_iff}
 use Rattle.leaves.proofs.Insides.{neither}
 use Rattle.frozen.specs.Frozen.{free_of}
 use Rattle.factor.specs.State.{store_need}
-use Rattle.factor.specs.Tests.{finite_test, finite_not_nan, not_above, below}
+use Rattle.factor.specs.Tests.{finite_test, finite_number, not_above, below}
 use Rattle.search.specs.Search.{Flagged}
 use Rattle.search.specs.Search as plain
 use Rattle.calls.specs.declared.state.State.{State}
@@ -35,7 +35,7 @@ module _ (st : State) (store : ℕ) (order : List ℕ) (diag : List Float) (radi
 
   abbrev numbers : List Test
   numbers =
-      finite_test (whole st) diag ∷ finite_not_nan radius ∷ finite_not_nan lambda ∷ (not_above radius, 7) ∷ (below lambda, 7) ∷ (not (none_zero (take st.n diag)), 7) ∷ free_test st ∷ []
+      finite_test (whole st) diag ∷ finite_number radius ∷ finite_number lambda ∷ (not_above radius, 7) ∷ (below lambda, 7) ∷ (not (none_zero (take st.n diag)), 7) ∷ free_test st ∷ []
 
   abbrev all : ℕ
   all = first_of (marked_search_tests st store order diag radius lambda out)
@@ -127,7 +127,7 @@ module _ (st : State) (order : List ℕ) (diag : List Float) (radius lambda : Fl
     module _ (z : c ≡ 0) {free : ℕ} (f : free ≡ cols st) where
       pub search-lent : Lent st order diag store out free
       search-lent =
-          let more = form_test st order ∷ finite_test (whole st) diag ∷ finite_not_nan radius ∷ finite_not_nan lambda ∷ (not_above radius, 7) ∷ (below lambda, 7) ∷ (not (none_zero (take st.n diag)), 7) ∷ [] in
+          let more = form_test st order ∷ finite_test (whole st) diag ∷ finite_number radius ∷ finite_number lambda ∷ (not_above radius, 7) ∷ (below lambda, 7) ∷ (not (none_zero (take st.n diag)), 7) ∷ [] in
           let r = room_ready st store (min (length order) (min (length diag) (length out))) more refl (sym e ∙ z) in
           let l = r.each_long in
           record { ready = r; counted = f; order_fits = omega arith; diag_fits = omega arith; out_fits = omega arith }

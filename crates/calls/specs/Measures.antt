@@ -4,7 +4,7 @@ use Rattle.leaves.specs.Reply.{refused}
 use Rattle.leaves.specs.Tests.{Test}
 use Rattle.leaves.specs.declared.norm.Ranges.{Ranges}
 use Rattle.frozen.specs.Frozen.{free_of}
-use Rattle.factor.specs.Tests.{finite_test, finite_not_nan, not_above, below}
+use Rattle.factor.specs.Tests.{finite_test, finite_number, not_above, below}
 use Rattle.measures.specs.Measures as plain
 use Rattle.calls.specs.declared.state.State.{State}
 use Rattle.calls.specs.State.{marks_in, cols, whole, without_frozen}
@@ -13,7 +13,7 @@ use Rattle.calls.specs.Outcome.{MarkedTold, marked_told, told_as, narrowed_in, r
 
 unfoldable pub marked_gradient : State → List ℕ → Float → List Float → MarkedTold Float
 marked_gradient st order bnorm store =
-    call_by st.marks (marked_room_tests st (length store) (length order) ++ (form_test st order ∷ finite_not_nan bnorm ∷ (not_above bnorm, 7) ∷ free_test st ∷ []))
+    call_by st.marks (marked_room_tests st (length store) (length order) ++ (form_test st order ∷ finite_number bnorm ∷ (not_above bnorm, 7) ∷ free_test st ∷ []))
     (told_as st (plain.gradient_call (whole st) order bnorm store))
     (rested_by st store (plain.gradient_call (without_frozen st) (take (cols st) order) bnorm (narrowed_in st store)))
     (λ k. marked_told (refused k) st store)
@@ -22,7 +22,7 @@ marked_gradient st order bnorm store =
 abbrev pub marked_above_tests : State → ℕ → List ℕ → Float → Float → List Test
 marked_above_tests st store order bnorm limit =
     marked_room_tests st store (length order)
-    ++ (form_test st order ∷ finite_not_nan bnorm ∷ finite_not_nan limit ∷ (not_above bnorm, 7) ∷ (below limit, 7) ∷ free_test st ∷ [])
+    ++ (form_test st order ∷ finite_number bnorm ∷ finite_number limit ∷ (not_above bnorm, 7) ∷ (below limit, 7) ∷ free_test st ∷ [])
 
 unfoldable pub marked_above : State → List ℕ → Float → Float → List Float → MarkedTold Bool
 marked_above st order bnorm limit store =

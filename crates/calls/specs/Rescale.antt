@@ -4,7 +4,7 @@ use Rattle.leaves.specs.Number.{one}
 use Rattle.leaves.specs.Reply.{Reply, answered, refused}
 use Rattle.leaves.specs.Tests.{Test}
 use Rattle.frozen.specs.Frozen.{free_of, merged}
-use Rattle.factor.specs.Tests.{finite_test, finite_not_nan, not_above}
+use Rattle.factor.specs.Tests.{finite_test, finite_number, not_above}
 use Rattle.factor.specs.Outcome.{written}
 use Rattle.factor.specs.Outcome as outcome
 use Rattle.measures.specs.Rescale as plain
@@ -17,7 +17,7 @@ use Rattle.calls.specs.Outcome.{MarkedEnded, marked_ended, ended_as, narrowed_in
 
 abbrev pub marked_first_tests : State → ℕ → List Float → List Float → Float → List Test
 marked_first_tests st store diag x bound =
-    marked_room_tests st store (min (length diag) (length x)) ++ (finite_test (whole st) x ∷ finite_not_nan bound ∷ (not_above bound, 7) ∷ free_test st ∷ [])
+    marked_room_tests st store (min (length diag) (length x)) ++ (finite_test (whole st) x ∷ finite_number bound ∷ (not_above bound, 7) ∷ free_test st ∷ [])
 
 unfoldable pub marked_scaling_tests : State → Mode → ℕ → List Float → List Float → Float → List Test
 marked_scaling_tests st mode.FirstScaled store diag x bound = marked_first_tests st store diag x bound

@@ -4,7 +4,7 @@ use Rattle.leaves.specs.Reply.{refused}
 use Rattle.leaves.specs.Square.{zeros}
 use Rattle.leaves.specs.Tests.{Test, none_zero}
 use Rattle.frozen.specs.Frozen.{free_of}
-use Rattle.factor.specs.Tests.{finite_test, finite_not_nan, not_above, below}
+use Rattle.factor.specs.Tests.{finite_test, finite_number, not_above, below}
 use Rattle.search.specs.Search.{Flagged}
 use Rattle.search.specs.Search as plain
 use Rattle.calls.specs.declared.state.State.{State}
@@ -15,7 +15,7 @@ use Rattle.calls.specs.Outcome.{MarkedEnded, marked_ended, ended_as, narrowed_in
 abbrev pub marked_search_tests : State → ℕ → List ℕ → List Float → Float → Float → ℕ → List Test
 marked_search_tests st store order diag radius lambda out =
     marked_solve_tests st store order (min (length diag) out)
-    ++ (finite_test (whole st) diag ∷ finite_not_nan radius ∷ finite_not_nan lambda ∷ (not_above radius, 7) ∷ (below lambda, 7) ∷ (not (none_zero (take st.n diag)), 7) ∷ free_test st ∷ [])
+    ++ (finite_test (whole st) diag ∷ finite_number radius ∷ finite_number lambda ∷ (not_above radius, 7) ∷ (below lambda, 7) ∷ (not (none_zero (take st.n diag)), 7) ∷ free_test st ∷ [])
 
 unfoldable pub marked_search : State → List ℕ → List Float → Float → Float → List Float → List Float → MarkedEnded Flagged
 marked_search st order diag radius lambda store out =

@@ -5,7 +5,7 @@ ghost use Rattle.leaves.specs.Reply.{place_of, measured_of};
 ghost use Rattle.leaves.specs.Tests.{first_of};
 ghost use Rattle.factor.specs.Answers.{truth_of};
 ghost use Rattle.factor.specs.State.{store_need};
-ghost use Rattle.factor.specs.Tests.{finite_test, finite_not_nan, not_above};
+ghost use Rattle.factor.specs.Tests.{finite_test, finite_number, not_above};
 ghost use Rattle.measures.specs.Answers.{gradient_of};
 ghost use Rattle.measures.specs.Measures as plain;
 ghost use Rattle.calls.specs.State.{whole as wholeState, without_frozen as reducedState};
@@ -15,7 +15,7 @@ ghost use Rattle.calls.specs.Measures.{marked_gradient, marked_jx, marked_determ
 ghost use Rattle.calls.specs.inner.Reducible.{Reducible};
 
 use crate::check::{ordered, room, some_free};
-use crate::room::{gather_in, narrow_in, rest_in, room320, store_need};
+use crate::room::{gather_in, narrow_in, rest_in_lem, room320, store_need};
 use crate::state::{
     GradientTold, MeasuredTold, PlaceTold, State, TruthTold, marked, reduced, whole,
 };
@@ -30,7 +30,7 @@ use measures::gradient::Gradient;
 // ---- the gradient
 
 fn check_gradient(st: State, store: usize, order: &[usize], bnorm: f64) -> u8
-    ensures { result ≡ first_of (marked_room_tests st store (length order.now) ++ (form_test st order.now ∷ finite_not_nan bnorm ∷ (not_above bnorm, 7) ∷ free_test st ∷ [])) }
+    ensures { result ≡ first_of (marked_room_tests st store (length order.now) ++ (form_test st order.now ∷ finite_number bnorm ∷ (not_above bnorm, 7) ∷ free_test st ∷ [])) }
 {
     let c = ordered(st, store, order.len(), order);
     if c != 0 {
@@ -59,7 +59,7 @@ fn gradient_frozen(
 {
     narrow_in(st.n, st.marks, free, store, small);
     let t = measures::measures::max_a_t_b_scaled(reduced(st, free), small, order, bnorm);
-    rest_in(st.n, st.marks, free, store);
+    rest_in_lem(st.n, st.marks, free, store);
     t.answer
 }
 
@@ -130,7 +130,7 @@ fn jx_frozen(
 {
     narrow_in(st.n, st.marks, free, store, small);
     let t = measures::measures::a_x_norm(reduced(st, free), small, order, xs);
-    rest_in(st.n, st.marks, free, store);
+    rest_in_lem(st.n, st.marks, free, store);
     t.answer
 }
 
@@ -198,7 +198,7 @@ fn determined_frozen(st: State, free: usize, store: &mut [f64], small: &mut [f64
 {
     narrow_in(st.n, st.marks, free, store, small);
     let t = measures::measures::determined(reduced(st, free), small);
-    rest_in(st.n, st.marks, free, store);
+    rest_in_lem(st.n, st.marks, free, store);
     t.answer
 }
 
@@ -244,7 +244,7 @@ fn rank_frozen(st: State, free: usize, store: &mut [f64], small: &mut [f64]) -> 
 {
     narrow_in(st.n, st.marks, free, store, small);
     let t = measures::measures::is_non_singular(reduced(st, free), small);
-    rest_in(st.n, st.marks, free, store);
+    rest_in_lem(st.n, st.marks, free, store);
     t.answer
 }
 

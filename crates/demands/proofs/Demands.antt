@@ -40,7 +40,7 @@ use Rattle.search.proofs.trust_region.determine_lambda_and_parameter_update.Read
 use Rattle.search.proofs.trust_region.determine_lambda_and_parameter_update.Kinds as kinds
 use Rattle.demands.proofs.Ties.{determine_lambda_and_parameter_update_is}
 use Rattle.search.specs.Lmpar.{lmpar}
-use Rattle.search.proofs.AgainstLmpar.{search_answers_as_lmpar}
+use Rattle.search.proofs.AgainstLmpar.{search-answers_as_lmpar}
 use Rattle.demands.proofs.LmparHistories.{factored-answers_as_lmpar}
 use Rattle.demands.proofs.LeafTable as leaf
 use Rattle.demands.proofs.WorkingTable as working
@@ -209,7 +209,7 @@ pub demand_2_search : (unset : Float) (st : State) (order : List ℕ) (diag : Li
     → search_call st order diag radius lambda (store out).reply ≡ answered a → st.n ≤ st.m
     → lmpar (minpack_enorm unset) dwarf (lent_of st order diag radius store) lambda
     ≡ record { x = take st.n (search_call st order diag radius lambda (store out).out); par = a.0.lambda; qrsolvs = a.0.trials }
-demand_2_search = search_answers_as_lmpar
+demand_2_search = search-answers_as_lmpar
 
 -- After a factoring it is so for m < n too, straight after it or after any calls since.
 pub demand_2_search_factored : (m n : ℕ) (jacobian residuals store : List Float) (order : List ℕ) (bench : List Float) {seen : Ranges}

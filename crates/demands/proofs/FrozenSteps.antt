@@ -25,7 +25,7 @@ use Rattle.search.specs.Ending.{ending}
 use Rattle.search.specs.Run.{within, falling, run_of}
 use Rattle.search.specs.Search.{Flagged, problem_of}
 use Rattle.search.specs.Search as plain
-use Rattle.search.proofs.AgainstLmpar.{search_answers_as_lmpar}
+use Rattle.search.proofs.AgainstLmpar.{search-answers_as_lmpar}
 use Rattle.calls.specs.declared.state.State.{State}
 use Rattle.calls.specs.State.{marks_in, cols, without_frozen}
 use Rattle.calls.specs.Outcome.{narrowed_in}
@@ -132,13 +132,13 @@ module _ (st : State) (order : List ℕ) (diag : List Float) (radius lambda : Fl
   abbrev small : Ended Flagged
   small = plain.search_call (without_frozen st) (take (cols st) order) (free_of (marks_in st) diag) radius lambda (narrowed_in st store) (zeros (cols st))
 
-  read_back : perform_marked this st order store ≡ read_back this st store (reduced_outcome this st order store)
+  read_back_lem : perform_marked this st order store ≡ read_back this st store (reduced_outcome this st order store)
   unfolding perform_marked
-  read_back = frozen_is_reduced this st order store m ((frozen_answered this st order store m).0 (ap reply_number h)).0
+  read_back_lem = frozen_is_reduced this st order store m ((frozen_answered this st order store m).0 (ap reply_number h)).0
 
   small_answers : small.reply ≡ answered a
   unfolding perform_marked reduced_call perform
-  small_answers = sym (ap (λ (o : MarkedOutcome). found_in o.answer) read_back) ∙ h
+  small_answers = sym (ap (λ (o : MarkedOutcome). found_in o.answer) read_back_lem) ∙ h
 
   out_is : (marked_search st order diag radius lambda store out).out ≡ written (merged (marks_in st) (zeros st.n) small.out) out
   unfolding perform_marked reduced_call perform answered_out
@@ -154,7 +154,7 @@ module _ (st : State) (order : List ℕ) (diag : List Float) (radius lambda : Fl
       → lmpar (minpack_enorm unset) dwarf (lent_of (without_frozen st) (take (cols st) order) (free_of (marks_in st) diag) radius (narrowed_in st store)) lambda
       ≡ record { x = free_of (marks_in st) (take st.n (marked_search st order diag radius lambda store out).out); par = a.0.lambda; qrsolvs = a.0.trials }
   frozen_search-lmpar unset l =
-      rw out_free (search_answers_as_lmpar unset (without_frozen st) (take (cols st) order) (free_of (marks_in st) diag) radius lambda (narrowed_in st store) (zeros (cols st)) a small_answers l)
+      rw out_free (search-answers_as_lmpar unset (without_frozen st) (take (cols st) order) (free_of (marks_in st) diag) radius lambda (narrowed_in st store) (zeros (cols st)) a small_answers l)
 
   -- LAW: the rule on lambda, by the reduced problem's undamped step
   abbrev pub asked : Problem

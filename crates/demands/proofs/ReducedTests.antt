@@ -19,7 +19,7 @@ use Rattle.leaves.proofs.Refusals.{numbered, none_of_both}
 use Rattle.frozen.specs.Frozen.{free_of}
 use Rattle.frozen.proofs.Reduces.{marks-length, free_length, free_finite, free_none_zero, narrowed-length}
 use Rattle.factor.specs.State.{is_empty, store_need}
-use Rattle.factor.specs.Tests.{is_permutation, held_test, finite_test, finite_not_nan, not_above, below}
+use Rattle.factor.specs.Tests.{is_permutation, held_test, finite_test, finite_number, not_above, below}
 use Rattle.factor.specs.Tests as plain
 use Rattle.measures.specs.declared.scaling.Mode.TheVariants as mode
 use Rattle.calls.specs.declared.state.State.{State}
@@ -46,17 +46,17 @@ further_by (base (zero_solve out)) st order = form_test st order ∷ []
 further_by (base (damped_solve diag out)) st order = form_test st order ∷ finite_test (whole st) diag ∷ []
 further_by (base (held_solve rhs out)) st order = form_test st order ∷ held_test (whole st) ∷ finite_test (whole st) rhs ∷ []
 further_by (base (held_product out)) st order = held_test (whole st) ∷ []
-further_by (base (gradient bnorm)) st order = form_test st order ∷ finite_not_nan bnorm ∷ (not_above bnorm, 7) ∷ []
-further_by (base (above bnorm limit)) st order = form_test st order ∷ finite_not_nan bnorm ∷ finite_not_nan limit ∷ (not_above bnorm, 7) ∷ (below limit, 7) ∷ []
+further_by (base (gradient bnorm)) st order = form_test st order ∷ finite_number bnorm ∷ (not_above bnorm, 7) ∷ []
+further_by (base (above bnorm limit)) st order = form_test st order ∷ finite_number bnorm ∷ finite_number limit ∷ (not_above bnorm, 7) ∷ (below limit, 7) ∷ []
 further_by (base (jx_norm x)) st order = form_test st order ∷ finite_test (whole st) x ∷ []
-further_by (base (scaling mode.FirstScaled diag x bound)) st order = finite_test (whole st) x ∷ finite_not_nan bound ∷ (not_above bound, 7) ∷ []
-further_by (base (scaling mode.FirstUnscaled diag x bound)) st order = finite_test (whole st) x ∷ finite_not_nan bound ∷ (not_above bound, 7) ∷ []
+further_by (base (scaling mode.FirstScaled diag x bound)) st order = finite_test (whole st) x ∷ finite_number bound ∷ (not_above bound, 7) ∷ []
+further_by (base (scaling mode.FirstUnscaled diag x bound)) st order = finite_test (whole st) x ∷ finite_number bound ∷ (not_above bound, 7) ∷ []
 further_by (base (scaling mode.LaterScaled diag x bound)) st order = finite_test (whole st) diag ∷ []
 further_by (base (scaling mode.LaterUnscaled diag x bound)) st order = []
 further_by (base determined) st order = []
 further_by (base non_singular) st order = []
 further_by (search diag radius lambda out) st order =
-    form_test st order ∷ finite_test (whole st) diag ∷ finite_not_nan radius ∷ finite_not_nan lambda ∷ (not_above radius, 7) ∷ (below lambda, 7) ∷ (not (none_zero (take st.n diag)), 7) ∷ []
+    form_test st order ∷ finite_test (whole st) diag ∷ finite_number radius ∷ finite_number lambda ∷ (not_above radius, 7) ∷ (below lambda, 7) ∷ (not (none_zero (take st.n diag)), 7) ∷ []
 
 pub tests_split : (c : Call) (st : State) (order : List ℕ) (s : List Float)
     → tests_marked c st order s ≡ marked_room_tests st (length s) (shortest_by c st order) ++ (further_by c st order ++ (free_test st ∷ []))

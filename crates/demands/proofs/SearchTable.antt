@@ -18,7 +18,7 @@ use Rattle.leaves.specs.Reply.{Reply, answered, refused}
 use Rattle.factor.specs.State.{is_empty, with_held, store_need}
 use Rattle.leaves.specs.Tests.{outside, Test, first_of, none_zero}
 use Rattle.factor.specs.Room.{load, lay, emptied}
-use Rattle.factor.specs.Tests.{order_test, finite_test, finite_not_nan, not_above, below}
+use Rattle.factor.specs.Tests.{order_test, finite_test, finite_number, not_above, below}
 use Rattle.factor.specs.Outcome.{Ended, ended}
 use Rattle.demands.specs.Calls.{reply_number}
 use Rattle.factor.specs.declared.state.State.{State}
@@ -158,8 +158,8 @@ module _ (st : State) (order : List ℕ) (diag : List Float) (radius lambda : Fl
       ∷ (ltb (length store) (store_need st.n) || ltb (min (length order) (min (length diag) (length out))) st.n, 3)
       ∷ order_test st order
       ∷ finite_test st diag
-      ∷ finite_not_nan radius
-      ∷ finite_not_nan lambda
+      ∷ finite_number radius
+      ∷ finite_number lambda
       ∷ (not_above radius, 7)
       ∷ (below lambda, 7)
       ∷ (not (none_zero (take st.n diag)), 7)

@@ -42,10 +42,10 @@ use Rattle.demands.proofs.TestNumbers.{small, first_small}
 abbrev eight_if : Bool → ℕ
 eight_if b = cond b 8 0
 
-finite_not_nan_lem : (x : List Float) (e f : Effect) → store_number e.answer ≡ 0 → store_number f.answer ≡ 8
+finite_not_nan : (x : List Float) (e f : Effect) → store_number e.answer ≡ 0 → store_number f.answer ≡ 8
     → store_number (finite_or x e f).answer ≡ eight_if (not (all_finite x))
 unfolding finite_or
-finite_not_nan_lem x e f p q = by (all_finite x)
+finite_not_nan x e f p q = by (all_finite x)
   where
     by : (b : Bool) → (let g : Effect = elim b [ true ↦ e | false ↦ f ] in store_number g.answer ≡ eight_if (not b))
     by true = p
@@ -92,10 +92,10 @@ rescaled_number false a new old = refl
 
 pub effect_number : (c : StoreCall) (st : State) (order : List ℕ) (r : Room) → store_number (effect c st order r).answer ≡ eight_if (store_breaks c st order r)
 unfolding effect store_breaks measure above_limit rescaled
-effect_number (zero_solve out) st order r = finite_not_nan_lem (zero_x st r) _ _ refl refl
-effect_number (damped_solve diag out) st order r = finite_not_nan_lem (damped_numbers (damped_l st order diag r)) _ _ refl refl
-effect_number (held_solve rhs out) st order r = finite_not_nan_lem (held_solved st.held (gather (take st.n order) rhs) r) _ _ refl refl
-effect_number (held_product out) st order r = finite_not_nan_lem (held_product_of st.held r) _ _ refl refl
+effect_number (zero_solve out) st order r = finite_not_nan (zero_x st r) _ _ refl refl
+effect_number (damped_solve diag out) st order r = finite_not_nan (damped_numbers (damped_l st order diag r)) _ _ refl refl
+effect_number (held_solve rhs out) st order r = finite_not_nan (held_solved st.held (gather (take st.n order) rhs) r) _ _ refl refl
+effect_number (held_product out) st order r = finite_not_nan (held_product_of st.held r) _ _ refl refl
 effect_number (gradient bnorm) st order r = largest_number plus_zero (column_measures st order bnorm r)
 effect_number (above bnorm limit) st order r = above_number limit (column_measures st order bnorm r)
 effect_number (jx_norm x) st order r = or8_number (jx_norm_of (gather (take st.n order) x) r.upper) _

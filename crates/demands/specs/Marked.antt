@@ -7,7 +7,7 @@ use Rattle.leaves.specs.Tests.{Test, first_of}
 use Rattle.frozen.specs.Frozen.{free_of, merged}
 use Rattle.factor.specs.Outcome.{written}
 use Rattle.factor.specs.Solve.{padded}
-use Rattle.factor.specs.Tests.{held_test, finite_test, finite_not_nan, not_above}
+use Rattle.factor.specs.Tests.{held_test, finite_test, finite_number, not_above}
 use Rattle.factor.specs.declared.state.State.{State as Plain}
 use Rattle.calls.specs.declared.state.State.{State}
 use Rattle.calls.specs.State.{marked_held, marked, marks_in, cols, whole, without_frozen}
@@ -58,7 +58,7 @@ tests_marked (base (zero_solve out)) st order s = marked_solve_tests st (length 
 tests_marked (base (damped_solve diag out)) st order s = marked_solve_tests st (length s) order (min (length diag) (length out)) ++ (finite_test (whole st) diag ∷ free_test st ∷ [])
 tests_marked (base (held_solve rhs out)) st order s = marked_solve_tests st (length s) order (min (length rhs) (length out)) ++ (held_test (whole st) ∷ finite_test (whole st) rhs ∷ free_test st ∷ [])
 tests_marked (base (held_product out)) st order s = marked_room_tests st (length s) (length out) ++ (held_test (whole st) ∷ free_test st ∷ [])
-tests_marked (base (gradient bnorm)) st order s = marked_room_tests st (length s) (length order) ++ (form_test st order ∷ finite_not_nan bnorm ∷ (not_above bnorm, 7) ∷ free_test st ∷ [])
+tests_marked (base (gradient bnorm)) st order s = marked_room_tests st (length s) (length order) ++ (form_test st order ∷ finite_number bnorm ∷ (not_above bnorm, 7) ∷ free_test st ∷ [])
 tests_marked (base (above bnorm limit)) st order s = marked_above_tests st (length s) order bnorm limit
 tests_marked (base (jx_norm x)) st order s = marked_solve_tests st (length s) order (length x) ++ (finite_test (whole st) x ∷ free_test st ∷ [])
 tests_marked (base (scaling md diag x bound)) st order s = marked_scaling_tests st md (length s) diag x bound

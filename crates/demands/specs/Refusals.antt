@@ -3,7 +3,7 @@
 use Rattle.std.specs.Prelude.{List, [], ◌∷◌, ◌++◌, ℕ, min, length, Float}
 use Rattle.leaves.specs.Reply.{refused}
 use Rattle.leaves.specs.Tests.{Test}
-use Rattle.factor.specs.Tests.{room_tests, order_test, held_test, finite_test, finite_not_nan, not_above, below}
+use Rattle.factor.specs.Tests.{room_tests, order_test, held_test, finite_test, finite_number, not_above, below}
 use Rattle.demands.specs.Calls.{StoreAnswer, done, number, ranged, count, truth, scaled, StoreOutcome, store_outcome, StoreCall, zero_solve, damped_solve, held_solve, held_product, gradient, above, jx_norm, scaling, determined, non_singular}
 use Rattle.factor.specs.declared.state.State.{State}
 use Rattle.measures.specs.declared.scaling.Mode.TheVariants as mode
@@ -33,11 +33,11 @@ further_of (zero_solve out) st order = order_test st order ∷ []
 further_of (damped_solve diag out) st order = order_test st order ∷ finite_test st diag ∷ []
 further_of (held_solve rhs out) st order = order_test st order ∷ held_test st ∷ finite_test st rhs ∷ []
 further_of (held_product out) st order = held_test st ∷ []
-further_of (gradient bnorm) st order = order_test st order ∷ finite_not_nan bnorm ∷ (not_above bnorm, 7) ∷ []
-further_of (above bnorm limit) st order = order_test st order ∷ finite_not_nan bnorm ∷ finite_not_nan limit ∷ (not_above bnorm, 7) ∷ (below limit, 7) ∷ []
+further_of (gradient bnorm) st order = order_test st order ∷ finite_number bnorm ∷ (not_above bnorm, 7) ∷ []
+further_of (above bnorm limit) st order = order_test st order ∷ finite_number bnorm ∷ finite_number limit ∷ (not_above bnorm, 7) ∷ (below limit, 7) ∷ []
 further_of (jx_norm x) st order = order_test st order ∷ finite_test st x ∷ []
-further_of (scaling mode.FirstScaled diag x bound) st order = finite_test st x ∷ finite_not_nan bound ∷ (not_above bound, 7) ∷ []
-further_of (scaling mode.FirstUnscaled diag x bound) st order = finite_test st x ∷ finite_not_nan bound ∷ (not_above bound, 7) ∷ []
+further_of (scaling mode.FirstScaled diag x bound) st order = finite_test st x ∷ finite_number bound ∷ (not_above bound, 7) ∷ []
+further_of (scaling mode.FirstUnscaled diag x bound) st order = finite_test st x ∷ finite_number bound ∷ (not_above bound, 7) ∷ []
 further_of (scaling mode.LaterScaled diag x bound) st order = finite_test st diag ∷ []
 further_of (scaling mode.LaterUnscaled diag x bound) st order = []
 further_of determined st order = []

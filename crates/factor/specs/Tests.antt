@@ -60,8 +60,8 @@ held_test st = (is_nothing st.held, 5)
 abbrev pub finite_test : State → List Float → Test
 finite_test st xs = (not (all_finite (take st.n xs)), 6)
 
-abbrev pub finite_not_nan : Float → Test
-finite_not_nan x = (not (is_finite x), 6)
+abbrev pub finite_number : Float → Test
+finite_number x = (not (is_finite x), 6)
 
 abbrev pub solve_tests : State → ℕ → List ℕ → ℕ → List Test
 solve_tests st store order shortest = room_tests st store (min (length order) shortest) ++ (order_test st order ∷ [])

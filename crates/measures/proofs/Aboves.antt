@@ -24,7 +24,7 @@ use Rattle.factor.specs.declared.state.State.{State}
 use Rattle.measures.specs.Gradient.{measures, largest, gradient, above, above_limit}
 use Rattle.measures.specs.Measures.{gradient_call, above_tests, above_call}
 use Rattle.measures.proofs.Measured.{gradient_tests, above-worked}
-use Rattle.measures.proofs.Comparing.{finite_not_nan_lem, max_number, max-finite, max-above_first, max-above-second, max-not_above, max_infinite, infinite_max}
+use Rattle.measures.proofs.Comparing.{finite_not_nan, max_number, max-finite, max-above_first, max-above-second, max-not_above, max_infinite, infinite_max}
 use Rattle.measures.proofs.gradient.Gradients.{largest_is, largest-more, above_not, above_is, above_on, above_none}
 
 -- ---- what the measures are: absolute values
@@ -238,8 +238,8 @@ module _ (limit : Float) where
 finite-answered : (limit : Float) (top : Float) (xs : List Float) → is_finite top ≡ true → NoneAbove limit xs → (g : Float) × (largest top xs ≡ answered g)
 finite-answered limit top [] f h = (top, sym (largest_is top f))
 finite-answered limit top (x ∷ xs) f h =
-    let n = finite_not_nan_lem x h.0.0 in
-    let r = finite-answered limit (max_of top x) xs (max-finite top x (finite_not_nan_lem top f) f h.0.0) h.1 in
+    let n = finite_not_nan x h.0.0 in
+    let r = finite-answered limit (max_of top x) xs (max-finite top x (finite_not_nan top f) f h.0.0) h.1 in
     (r.0, sym (largest-more top x xs (is_nan_lem x ∙ n)) ∙ r.1)
 
 -- 'Where the full gradient is refused 8, the question may have said yes already [..] and is refused 8 otherwise': it never says no

@@ -122,11 +122,11 @@ lt_trans : (l t x : Float) → is_nan x ≡ false → lt l t ≡ true → lt t x
 lt_trans l t x n h k = lt_between l x t n h (lt_turned t x k)
 
 -- ---- the larger of two numbers
-pub finite_not_nan_lem : (x : Float) → is_finite x ≡ true → is_nan x ≡ false
+pub finite_not_nan : (x : Float) → is_finite x ≡ true → is_nan x ≡ false
 unfolding is_finite is_nan
-finite_not_nan_lem nan h = sym h
-finite_not_nan_lem (inf s) h = refl
-finite_not_nan_lem (fin s m e) h = refl
+finite_not_nan nan h = sym h
+finite_not_nan (inf s) h = refl
+finite_not_nan (fin s m e) h = refl
 
 module _ (a b : Float) (n : is_nan a ≡ false) where
   -- it is one of them

@@ -20,7 +20,7 @@ use Rattle.factor.specs.Solve.{gather, non_singular_of}
 use Rattle.measures.specs.Determined.{determined_of}
 use Rattle.measures.specs.inner.Counted.{counted_of}
 use Rattle.leaves.specs.Tests.{Test, first_of}
-use Rattle.factor.specs.Tests.{room_tests, order_test, finite_test, finite_not_nan, not_above, below, solve_tests}
+use Rattle.factor.specs.Tests.{room_tests, order_test, finite_test, finite_number, not_above, below, solve_tests}
 use Rattle.factor.specs.Outcome.{told}
 use Rattle.measures.specs.Measures.{finite_or_8, gradient_call, above_tests, above_call, jx_call, determined_call, non_singular_call}
 use Rattle.factor.specs.declared.state.State.{State}
@@ -41,7 +41,7 @@ one_inside h z = record { rows_some = omega arith; rows_few = omega arith; cols_
 -- ---- the gradient
 abbrev pub gradient_tests : State → ℕ → List ℕ → Float → List Test
 gradient_tests st store order bnorm =
-    room_tests st store (length order) ++ (order_test st order ∷ finite_not_nan bnorm ∷ (not_above bnorm, 7) ∷ [])
+    room_tests st store (length order) ++ (order_test st order ∷ finite_number bnorm ∷ (not_above bnorm, 7) ∷ [])
 
 -- the order list's tests, as the working asks them
 pub gradient_first : (st : State) (store : ℕ) (order : List ℕ) {c : ℕ} → c ≡ first_of (solve_tests st store order (length order))
@@ -52,7 +52,7 @@ pub gradient_passed : (st : State) (store : ℕ) (order : List ℕ) (bnorm : Flo
     → Ordered st store order (length order)
 gradient_passed st store order bnorm e z =
     let ts = room_tests st store (length order) ++ (order_test st order ∷ []) in
-    let us = finite_not_nan bnorm ∷ (not_above bnorm, 7) ∷ [] in
+    let us = finite_number bnorm ∷ (not_above bnorm, 7) ∷ [] in
     solve_passed st store order (length order)
     (ap first_of (order_alone st store order) ∙ earlier_passed ts us refl refl (sym e ∙ z))
 
@@ -77,7 +77,7 @@ module _ (st : State) (order : List ℕ) (bnorm : Float) (s : List Float) {c : �
 
 -- ---- the question beside it (02, #105): its own tests, after the order list's
 abbrev pub limit_tests : Float → Float → List Test
-limit_tests bnorm limit = finite_not_nan bnorm ∷ finite_not_nan limit ∷ (not_above bnorm, 7) ∷ (below limit, 7) ∷ []
+limit_tests bnorm limit = finite_number bnorm ∷ finite_number limit ∷ (not_above bnorm, 7) ∷ (below limit, 7) ∷ []
 
 module _ (st : State) (store : ℕ) (order : List ℕ) (bnorm limit : Float) where
   abbrev ordered : List Test

@@ -4,7 +4,7 @@ use Rattle.leaves.specs.Reply.{Reply, answered, refused}
 use Rattle.leaves.specs.Number.{is_finite}
 use Rattle.leaves.specs.Tests.{Test, first_of}
 use Rattle.factor.specs.Room.{load, lay, rested}
-use Rattle.factor.specs.Tests.{room_tests, order_test, finite_test, finite_not_nan, not_above, below, solve_tests}
+use Rattle.factor.specs.Tests.{room_tests, order_test, finite_test, finite_number, not_above, below, solve_tests}
 use Rattle.factor.specs.Solve.{gather, non_singular_of}
 use Rattle.measures.specs.Determined.{determined_of}
 use Rattle.measures.specs.Gradient.{gradient, above_limit, jx_norm_of, jx_ranges}
@@ -14,7 +14,7 @@ use Rattle.leaves.specs.declared.norm.Ranges.{Ranges}
 
 unfoldable pub gradient_call : State → List ℕ → Float → List Float → Told Float
 gradient_call st order bnorm store =
-    let c = first_of (room_tests st (length store) (length order) ++ (order_test st order ∷ finite_not_nan bnorm ∷ (not_above bnorm, 7) ∷ [])) in
+    let c = first_of (room_tests st (length store) (length order) ++ (order_test st order ∷ finite_number bnorm ∷ (not_above bnorm, 7) ∷ [])) in
     let r = load st.n store in
     elim (eqb c 0) [
       | true ↦ told (gradient (gather (take st.n order) r.norms) bnorm r.upper r.qtb) st (lay (rested r))
@@ -25,7 +25,7 @@ gradient_call st order bnorm store =
 abbrev pub above_tests : State → ℕ → List ℕ → Float → Float → List Test
 above_tests st store order bnorm limit =
     room_tests st store (length order)
-    ++ (order_test st order ∷ finite_not_nan bnorm ∷ finite_not_nan limit ∷ (not_above bnorm, 7) ∷ (below limit, 7) ∷ [])
+    ++ (order_test st order ∷ finite_number bnorm ∷ finite_number limit ∷ (not_above bnorm, 7) ∷ (below limit, 7) ∷ [])
 
 unfoldable pub above_call : State → List ℕ → Float → Float → List Float → Told Bool
 above_call st order bnorm limit store =

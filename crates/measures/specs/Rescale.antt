@@ -5,7 +5,7 @@ use Rattle.leaves.specs.Norm.{norm, neither, ranges}
 use Rattle.leaves.specs.Product.{product_all}
 use Rattle.factor.specs.Room.{load, lay, rested}
 use Rattle.leaves.specs.Tests.{Test, first_of, all_finite}
-use Rattle.factor.specs.Tests.{room_tests, finite_test, finite_not_nan, not_above}
+use Rattle.factor.specs.Tests.{room_tests, finite_test, finite_number, not_above}
 use Rattle.measures.specs.Scaling.{first_scaling, later_scaling, start_by, usable}
 use Rattle.factor.specs.Outcome.{Ended, ended, written}
 use Rattle.factor.specs.declared.state.State.{State}
@@ -22,7 +22,7 @@ pub data Scaled : Type 0 where
 -- The lent scaling holds n in every mode. x and step bound are read by the first call alone, the lent scaling by later scaled mode.
 abbrev pub first_tests : State → ℕ → List Float → List Float → Float → List Test
 first_tests st store diag x bound =
-    room_tests st store (min (length diag) (length x)) ++ (finite_test st x ∷ finite_not_nan bound ∷ (not_above bound, 7) ∷ [])
+    room_tests st store (min (length diag) (length x)) ++ (finite_test st x ∷ finite_number bound ∷ (not_above bound, 7) ∷ [])
 
 unfoldable pub scaling_tests : State → Mode → ℕ → List Float → List Float → Float → List Test
 scaling_tests st mode.FirstScaled store diag x bound = first_tests st store diag x bound

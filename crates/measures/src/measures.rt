@@ -7,7 +7,7 @@ ghost use Rattle.measures.specs.Answers.{gradient_of};
 ghost use Rattle.factor.specs.Answers.{truth_of};
 ghost use Rattle.factor.specs.Outcome.{told};
 ghost use Rattle.measures.specs.Measures.{gradient_call, jx_call, determined_call, non_singular_call, finite_or_8};
-ghost use Rattle.factor.specs.Tests.{solve_tests, room_tests, order_test, finite_test, finite_not_nan, not_above};
+ghost use Rattle.factor.specs.Tests.{solve_tests, room_tests, order_test, finite_test, finite_number, not_above};
 ghost use Rattle.measures.specs.Gradient.{gradient, jx_norm_of, jx_ranges};
 ghost use Rattle.factor.specs.Room.{load, lay, rested};
 ghost use Rattle.factor.specs.Solve.{gather};
@@ -52,7 +52,7 @@ pub struct TruthTold {
 
 // The order list is the one slice that holds a number for each column.
 fn check_gradient(st: State, store: usize, order: &[usize], bnorm: f64) -> u8
-    ensures { result ≡ first_of (room_tests st store (length order.now) ++ (order_test st order.now ∷ finite_not_nan bnorm ∷ (not_above bnorm, 7) ∷ [])) }
+    ensures { result ≡ first_of (room_tests st store (length order.now) ++ (order_test st order.now ∷ finite_number bnorm ∷ (not_above bnorm, 7) ∷ [])) }
 {
     let held = st.held;
     let c = ordered(held, st.m, st.n, store, order.len(), order);

@@ -49,11 +49,11 @@ search_is_lmpar unset p initial a step wide pivots rhs tall permuted finite abov
     answer_is_lmpar (minpack_enorm unset) p initial (inl (omega (arith, diagonal-length 0 p.upper))) (record { pivots = pivots; rhs = rhs; tall = tall; permuted = permuted })
     (enorm_is_norm unset) a step finite above e
 
-pub search_answers_as_lmpar : (unset : Float) (st : State) (order : List ℕ) (diag : List Float) (radius lambda : Float) (store out : List Float) (a : Flagged)
+pub search-answers_as_lmpar : (unset : Float) (st : State) (order : List ℕ) (diag : List Float) (radius lambda : Float) (store out : List Float) (a : Flagged)
     → search_call st order diag radius lambda (store out).reply ≡ answered a → st.n ≤ st.m
     → lmpar (minpack_enorm unset) dwarf (lent_of st order diag radius store) lambda
     ≡ record { x = take st.n (search_call st order diag radius lambda (store out).out); par = a.0.lambda; qrsolvs = a.0.trials }
-search_answers_as_lmpar unset st order diag radius lambda store out a h wide =
+search-answers_as_lmpar unset st order diag radius lambda store out a h wide =
     answers_as_lmpar st order diag radius lambda store out a h (minpack_enorm unset) (enorm_is_norm unset)
     (inl (omega (arith, diagonal-length 0 (load st.n store).upper, fits st order diag radius lambda (store out a h).upper_wide)))
 
@@ -65,7 +65,7 @@ outcome_is_lmpar : (unset : Float) (st : State) (order : List ℕ) (diag : List 
 outcome_is_lmpar unset st order diag radius lambda store out r a seen e h wide =
     let reply = ap (λ (x : Ended Flagged). x.reply) (sym e) ∙ ap found_of h in
     let written = ap (λ (x : Ended Flagged). x.out) (sym e) in
-    search_answers_as_lmpar unset st order diag radius lambda store out (a, seen) reply wide
+    search-answers_as_lmpar unset st order diag radius lambda store out (a, seen) reply wide
     ∙ ap (λ (x : List Float). record { x = take st.n x; par = a.lambda; qrsolvs = a.trials }) written
 
 -- The code: `Post` is what the source's `ensures` says of an answer r and of the lent slices at exit.

@@ -18,7 +18,7 @@ use Rattle.factor.specs.Room.{Room, load, lay, emptied}
 use Rattle.leaves.specs.Square.{zeros}
 use Rattle.factor.specs.Solve.{scatter}
 use Rattle.leaves.specs.Tests.{first_of, none_zero}
-use Rattle.factor.specs.Tests.{finite_test, finite_not_nan, not_above, below, solve_tests}
+use Rattle.factor.specs.Tests.{finite_test, finite_number, not_above, below, solve_tests}
 use Rattle.factor.specs.Outcome.{Ended, ended, written}
 use Rattle.factor.specs.declared.state.State.{State}
 use Rattle.factor.specs.declared.state.Held.TheVariants as held
@@ -103,7 +103,7 @@ module _ (st : State) (store : List Float) (order : List ℕ) (diag : List Float
     first_passed : first_of (solve_tests st (length store) order short) ≡ 0
     first_passed =
         earlier_passed (solve_tests st (length store) order short)
-        (finite_test st diag ∷ finite_not_nan radius ∷ finite_not_nan lambda ∷ (not_above radius, 7) ∷ (below lambda, 7) ∷ (not (none_zero (take st.n diag)), 7) ∷ [])
+        (finite_test st diag ∷ finite_number radius ∷ finite_number lambda ∷ (not_above radius, 7) ∷ (below lambda, 7) ∷ (not (none_zero (take st.n diag)), 7) ∷ [])
         refl refl (sym e ∙ z)
 
     pub few : st.n ≤ 16

@@ -26,7 +26,7 @@ use Rattle.search.specs.Qrsolv.{permuted}
 use Rattle.search.specs.Lmpar.{Output, Before, p1, nsing_of, gauss_newton, scaled, newton_step, newton_side, forward, parl_of, gradient, paru_of, par_of, iterations, lmpar}
 use Rattle.search.specs.declared.LMParameter.{LMParameter}
 use Rattle.search.proofs.LmparVectors.{Enough, rank_rows, full_rows, scaled_is, backward_is, forward_is, side_is, gradient_is, nsing_is, rank_full}
-use Rattle.search.proofs.Signs.{finite_not_nan_lem}
+use Rattle.search.proofs.Signs.{finite_not_nan}
 use Rattle.search.proofs.QrsolvSolution.{permuted_is}
 use Rattle.search.proofs.Shapes.{zero-length}
 use Rattle.search.proofs.LmparSigns.{divisor_number, band-bounded, outside_not_zero}
@@ -69,7 +69,7 @@ module _ (p : Problem) (wide : Enough p.m (diagonal p.upper)) (formed : Formed p
 
 gnorm_is : (enorm : List Float → Float) → AsNorm enorm → (p : Problem) → is_finite (gnorm p) ≡ true → enorm (gradient (given_of p) p.upper p.order) ≡ gnorm p
 unfolding gnorm
-gnorm_is enorm same p finite = ap enorm (gradient_is (given_of p) p.upper p.order) ∙ same _ (finite_not_nan_lem _ finite)
+gnorm_is enorm same p finite = ap enorm (gradient_is (given_of p) p.upper p.order) ∙ same _ (finite_not_nan _ finite)
 
 paru_is : (p : Problem) (g : Float) → paru_of dwarf (given_of p) g ≡ upper_bound g p.radius
 unfolding paru_of upper_bound p1 tenth
@@ -145,5 +145,5 @@ module _ (enorm : List Float → Float) (p : Problem) (initial : Float) where
           let a₀ = answer plus_zero n 0 s in
           let b = band-bounded p.radius f above in
           by_tests a₀ (trials_from p 9 first) _ (iterations enorm dwarf (given_of p) 9 (first_by v n)) (is_finite n) (le fp (band p.radius)) (is_finite first.lower) (is_finite (gnorm p)) e
-          (λ h. tested_is ∙ ap (λ (x : Float). ended s (first_by v x) (le (sub binary64 x p.radius) (band p.radius))) (same v (finite_not_nan_lem n h)))
+          (λ h. tested_is ∙ ap (λ (x : Float). ended s (first_by v x) (le (sub binary64 x p.radius) (band p.radius))) (same v (finite_not_nan n h)))
           (λ out l g h. ap (iterations enorm dwarf (given_of p) 9) (first_is l g) ∙ trials_agree enorm same p formed f b 9 0 first a₀ (outside_not_zero fp p.radius b out) h)

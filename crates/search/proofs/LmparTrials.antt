@@ -27,7 +27,7 @@ use Rattle.search.specs.Run.{Run, stopped, last, ten, trial_lambda, trial_norm, 
 use Rattle.search.specs.Search.{Answer, answer, concluded}
 use Rattle.search.specs.Qrsolv.{Solved, qrsolv}
 use Rattle.search.specs.Lmpar.{Given, Output, Before, Tried, p1, p001, scaled, newton_step, evaluated, accepted, parc_of, improved, iterations}
-use Rattle.search.proofs.Signs.{finite_not_nan_lem}
+use Rattle.search.proofs.Signs.{finite_not_nan}
 use Rattle.search.proofs.Numbers.{next_falls, next_rises}
 use Rattle.search.proofs.Trying.{tested}
 use Rattle.search.proofs.Commuting.{times_comm}
@@ -202,7 +202,7 @@ module _ (enorm : List Float → Float) (same : AsNorm enorm) (p : Problem) (w :
       before_ten t a₀ u fp (trials_from p k (next u fp c)) _ (iterations enorm dwarf (given_of p) k (improved enorm (given_of p) (before_of t s) y))
       (is_finite u.lambda) (is_finite u.norm) (is_within p fp) (is_falling s fp) (is_finite c) h
       (λ n.
-      ap (λ (x : Tried). ended k t s x (accepted (given_of p) (before_of t s) x)) (evaluated_is enorm p w t s ∙ ap (tried_by p u.lambda) (same (scaled_step p u.step) (finite_not_nan_lem u.norm n)))
+      ap (λ (x : Tried). ended k t s x (accepted (given_of p) (before_of t s) x)) (evaluated_is enorm p w t s ∙ ap (tried_by p u.lambda) (same (scaled_step p u.step) (finite_not_nan u.norm n)))
       ∙ ap (ended k t s y) (accepted_is p t s z y))
       (λ n o d g.
       ap (iterations enorm dwarf (given_of p) k) (improved_is t s n o d)

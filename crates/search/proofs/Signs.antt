@@ -190,19 +190,19 @@ max-finite a b p q = arms P (is_nan a) {x = b} q (arms P (is_nan b) {x = a} p (a
     P : Float → Type 0
     P x = is_finite x ≡ true
 
-pub finite_not_nan_lem : (x : Float) → is_finite x ≡ true → is_nan x ≡ false
+pub finite_not_nan : (x : Float) → is_finite x ≡ true → is_nan x ≡ false
 unfolding is_finite is_nan
-finite_not_nan_lem nan h = sym h
-finite_not_nan_lem (inf s) h = refl
-finite_not_nan_lem (fin s m e) h = refl
+finite_not_nan nan h = sym h
+finite_not_nan (inf s) h = refl
+finite_not_nan (fin s m e) h = refl
 
 -- not below a bound that is not below zero
 pub max-above : (a y : Float) → is_finite a ≡ true → Clear a → Clear (max_of a y)
 max-above a y f p = by (lt a y) refl
   where
     by : (t : Bool) → lt a y ≡ t → Clear (max_of a y)
-    by true e = rw (max_by a y true (finite_not_nan_lem a f) e) (above-clear a y f p e)
-    by false e = rw (max_by a y false (finite_not_nan_lem a f) e) p
+    by true e = rw (max_by a y true (finite_not_nan a f) e) (above-clear a y f p e)
+    by false e = rw (max_by a y false (finite_not_nan a f) e) p
 
 -- ---- above zero
 nothing_above : (a u k : ℕ) → ltb a (0 * u * k) ≡ false

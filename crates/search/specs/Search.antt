@@ -7,7 +7,7 @@ use Rattle.leaves.specs.declared.norm.Ranges.{Ranges}
 use Rattle.factor.specs.State.{with_held}
 use Rattle.factor.specs.Room.{Room, load, lay, emptied}
 use Rattle.leaves.specs.Tests.{Test, first_of, none_zero}
-use Rattle.factor.specs.Tests.{finite_test, finite_not_nan, not_above, below, solve_tests}
+use Rattle.factor.specs.Tests.{finite_test, finite_number, not_above, below, solve_tests}
 use Rattle.factor.specs.Outcome.{Ended, ended, written}
 use Rattle.factor.specs.declared.state.State.{State}
 use Rattle.factor.specs.declared.state.Held.TheVariants as held
@@ -49,7 +49,7 @@ problem_of st order diag radius r = record {
 abbrev pub search_tests : State → ℕ → List ℕ → List Float → Float → Float → ℕ → List Test
 search_tests st store order diag radius lambda out =
     solve_tests st store order (min (length diag) out)
-    ++ (finite_test st diag ∷ finite_not_nan radius ∷ finite_not_nan lambda ∷ (not_above radius, 7) ∷ (below lambda, 7) ∷ (not (none_zero (take st.n diag)), 7) ∷ [])
+    ++ (finite_test st diag ∷ finite_number radius ∷ finite_number lambda ∷ (not_above radius, 7) ∷ (below lambda, 7) ∷ (not (none_zero (take st.n diag)), 7) ∷ [])
 
 -- 02, #106: "each answer carries two flags: small seen, large seen"; "A refusal carries no flags"
 abbrev pub Flagged : Type 0

@@ -32,8 +32,8 @@ module _ (h : Head) (len room : ℕ) {k : ℕ} (e : k ≡ count_of h) where
 
 -- ---- 6 and 7: the numbers' places
 module _ (h : Head) (xs : List Float) (e : length xs ≡ count_of h) (o : outside h.m h.n ≡ false) where
-  pub rest_in : h.m * h.n + h.m ≤ 2176
-  rest_in = let i = inside h.m h.n o in omega (arith, jacobian_small i, i.rows_few)
+  pub rest_in_lem : h.m * h.n + h.m ≤ 2176
+  rest_in_lem = let i = inside h.m h.n o in omega (arith, jacobian_small i, i.rows_few)
 
   pub whole : length xs ≡ h.m * h.n + h.m + h.n + lasts h.call
   unfolding count_of

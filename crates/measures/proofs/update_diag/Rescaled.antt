@@ -9,7 +9,7 @@ use borrow.Author.Tests.{ne_eqb}
 use Rattle.leaves.specs.Reply.{Reply, refused}
 use Rattle.factor.specs.Room.{load, lay, rested}
 use Rattle.leaves.specs.Tests.{first_of}
-use Rattle.factor.specs.Tests.{room_tests, finite_test, finite_not_nan, not_above}
+use Rattle.factor.specs.Tests.{room_tests, finite_test, finite_number, not_above}
 use Rattle.measures.specs.Rescale.{Scaled, first_tests, scaling_tests, rescaled, scaling_call}
 use Rattle.factor.specs.Outcome.{ended}
 use Rattle.factor.specs.declared.state.State.{State}
@@ -46,7 +46,7 @@ first_passed : (st : State) (store : ℕ) (diag x : List Float) (bound : Float) 
     → Passed st store (length diag) × (st.n ≤ length x)
 first_passed st store diag x bound e =
     let ts = room_tests st store (min (length diag) (length x)) in
-    let p = room_passed st store (min (length diag) (length x)) (earlier_passed ts (finite_test st x ∷ finite_not_nan bound ∷ (not_above bound, 7) ∷ []) refl refl e) in
+    let p = room_passed st store (min (length diag) (length x)) (earlier_passed ts (finite_test st x ∷ finite_number bound ∷ (not_above bound, 7) ∷ []) refl refl e) in
     let l = p.each_long in
     (record { filled = p.filled; sizes = p.sizes; store_long = p.store_long; each_long = omega arith }, omega arith)
 

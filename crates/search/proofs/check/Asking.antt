@@ -8,7 +8,7 @@ use lib.ListN.{length, take}
 use lib.Ieee.{Float}
 use Rattle.leaves.specs.Number.{is_finite}
 use Rattle.leaves.specs.Tests.{Test, first_of, none_zero, all_finite}
-use Rattle.factor.specs.Tests.{finite_test, finite_not_nan, not_above, below, solve_tests}
+use Rattle.factor.specs.Tests.{finite_test, finite_number, not_above, below, solve_tests}
 use Rattle.factor.specs.declared.state.State.{State}
 use Rattle.leaves.proofs.Refusals.{stopped, test_met, went_to, past, none_left}
 use Rattle.factor.proofs.Passed.{solve_passed}
@@ -19,7 +19,7 @@ module _ (st : State) (store : ℕ) (order : List ℕ) (diag : List Float) (radi
   first = solve_tests st store order (min (length diag) out)
 
   abbrev numbers : List Test
-  numbers = finite_test st diag ∷ finite_not_nan radius ∷ finite_not_nan lambda ∷ (not_above radius, 7) ∷ (below lambda, 7) ∷ (not (none_zero (take st.n diag)), 7) ∷ []
+  numbers = finite_test st diag ∷ finite_number radius ∷ finite_number lambda ∷ (not_above radius, 7) ∷ (below lambda, 7) ∷ (not (none_zero (take st.n diag)), 7) ∷ []
 
   abbrev all : ℕ
   all = first_of (search_tests st store order diag radius lambda out)

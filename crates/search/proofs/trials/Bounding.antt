@@ -65,9 +65,9 @@ module _ (p : Problem) (initial : Float) (step : List Float) (a : Answer) where
       let upper = upper_bound (gnorm p) p.radius in
       record { lambda = first_lambda initial lower upper (gnorm p) (scaled_norm p step); lower = lower; upper = upper; fp = fp }
 
-  pub no_lower : {l : Float} → l ≡ lower_bound_of p step fp → is_finite l ≡ false → refused 8 ≡ concluded 0 a (damped p initial step)
+  pub no_lower_lem : {l : Float} → l ≡ lower_bound_of p step fp → is_finite l ≡ false → refused 8 ≡ concluded 0 a (damped p initial step)
   unfolding concluded
-  no_lower e h = let f : is_finite (lower_bound_of p step fp) ≡ false = rw e at h in rw (f, concluded)
+  no_lower_lem e h = let f : is_finite (lower_bound_of p step fp) ≡ false = rw e at h in rw (f, concluded)
 
   module _ {l : Float} (e : l ≡ lower_bound_of p step fp) (h : is_finite l ≡ true) where
     pub no_gnorm : {g : Float} → g ≡ gnorm p → is_finite g ≡ false → refused 8 ≡ concluded 0 a (damped p initial step)

@@ -5,7 +5,7 @@ use mathlib.Core.Bool.{not}
 use mathlib.Core.List.{[], ◌∷◌}
 use lib.Ieee.{of_bits}
 use Rattle.leaves.specs.Tests.{Test}
-use Rattle.factor.specs.Tests.{finite_not_nan, not_above, below}
+use Rattle.factor.specs.Tests.{finite_number, not_above, below}
 use Rattle.leaves.proofs.Refusals.{test_met, past}
 use Rattle.calls.specs.Tests.{free_test}
 use Rattle.calls.proofs.Measured.{above-stopped, above_went}
@@ -27,7 +27,7 @@ returns-2 : tie.Need-returns-2
 returns-2 c =
     let g = c.before.before.before.before.before.args in
     above_went g.st g.store g.order.now g.bnorm g.limit c.before.before.before.ordered.ensures c.before.before.if1.false
-    (sym (test_met (finite_not_nan g.bnorm) _ (ap not (sym c.before.is_finite.ensures) ∙ c.if2.true)))
+    (sym (test_met (finite_number g.bnorm) _ (ap not (sym c.before.is_finite.ensures) ∙ c.if2.true)))
 
 is-finite-requires-2 : tie.Need-is-finite-requires-2
 is-finite-requires-2 c κs = search rules
@@ -36,8 +36,8 @@ returns-3 : tie.Need-returns-3
 returns-3 c =
     let g = c.before.before.before.before.before.before.before.args in
     above_went g.st g.store g.order.now g.bnorm g.limit c.before.before.before.before.before.ordered.ensures c.before.before.before.before.if1.false
-    (past (finite_not_nan g.bnorm) _ (ap not (sym c.before.before.before.is_finite.ensures) ∙ c.before.before.if2.false)
-    (sym (test_met (finite_not_nan g.limit) _ (ap not (sym c.before.is-finite2.ensures) ∙ c.if3.true))))
+    (past (finite_number g.bnorm) _ (ap not (sym c.before.before.before.is_finite.ensures) ∙ c.before.before.if2.false)
+    (sym (test_met (finite_number g.limit) _ (ap not (sym c.before.is-finite2.ensures) ∙ c.if3.true))))
 
 returns-4 : tie.Need-returns-4
 unfolding of_bits
@@ -45,8 +45,8 @@ returns-4 c =
     let g = c.before.before.before.before.before.before.before.before.args in
     let low : Test = (not_above g.bnorm, 7) in
     above_went g.st g.store g.order.now g.bnorm g.limit c.before.before.before.before.before.before.ordered.ensures c.before.before.before.before.before.if1.false
-    (past (finite_not_nan g.bnorm) _ (ap not (sym c.before.before.before.before.is_finite.ensures) ∙ c.before.before.before.if2.false)
-    (past (finite_not_nan g.limit) _ (ap not (sym c.before.before.is-finite2.ensures) ∙ c.before.if3.false)
+    (past (finite_number g.bnorm) _ (ap not (sym c.before.before.before.before.is_finite.ensures) ∙ c.before.before.before.if2.false)
+    (past (finite_number g.limit) _ (ap not (sym c.before.before.is-finite2.ensures) ∙ c.before.if3.false)
     (sym (test_met low _ c.if4.true))))
 
 returns-5 : tie.Need-returns-5
@@ -56,8 +56,8 @@ returns-5 c =
     let low : Test = (not_above g.bnorm, 7) in
     let under : Test = (below g.limit, 7) in
     above_went g.st g.store g.order.now g.bnorm g.limit c.before.before.before.before.before.before.before.ordered.ensures c.before.before.before.before.before.before.if1.false
-    (past (finite_not_nan g.bnorm) _ (ap not (sym c.before.before.before.before.before.is_finite.ensures) ∙ c.before.before.before.before.if2.false)
-    (past (finite_not_nan g.limit) _ (ap not (sym c.before.before.before.is-finite2.ensures) ∙ c.before.before.if3.false)
+    (past (finite_number g.bnorm) _ (ap not (sym c.before.before.before.before.before.is_finite.ensures) ∙ c.before.before.before.before.if2.false)
+    (past (finite_number g.limit) _ (ap not (sym c.before.before.before.is-finite2.ensures) ∙ c.before.before.if3.false)
     (past low (under ∷ free_test g.st ∷ []) c.before.if4.false (sym (test_met under (free_test g.st ∷ []) c.if5.true)))))
 
 some-free-requires : tie.Need-some-free-requires
@@ -70,8 +70,8 @@ returns-6 c =
     let low : Test = (not_above g.bnorm, 7) in
     let under : Test = (below g.limit, 7) in
     above_went g.st g.store g.order.now g.bnorm g.limit c.before.before.before.before.before.before.before.before.ordered.ensures c.before.before.before.before.before.before.before.if1.false
-    (past (finite_not_nan g.bnorm) _ (ap not (sym c.before.before.before.before.before.before.is_finite.ensures) ∙ c.before.before.before.before.before.if2.false)
-    (past (finite_not_nan g.limit) _ (ap not (sym c.before.before.before.before.is-finite2.ensures) ∙ c.before.before.before.if3.false)
+    (past (finite_number g.bnorm) _ (ap not (sym c.before.before.before.before.before.before.is_finite.ensures) ∙ c.before.before.before.before.before.if2.false)
+    (past (finite_number g.limit) _ (ap not (sym c.before.before.before.before.is-finite2.ensures) ∙ c.before.before.before.if3.false)
     (past low (under ∷ free_test g.st ∷ []) c.before.before.if4.false (past under (free_test g.st ∷ []) c.before.if5.false c.some-free.ensures))))
 
 pub check-above-spec : {M : Type 1} → statement M

@@ -14,8 +14,8 @@ invariant-loop free order k₀ k = (k ≤ length order) × (continues k (drop k 
 abbrev decreases-loop : tie.decreases-loop
 decreases-loop free order k₀ k = length order - k
 
-loop_holds : tie.Need-loop-init invariant-loop decreases-loop
-loop_holds c = (c.requires, refl)
+loop-holds : tie.Need-loop-init invariant-loop decreases-loop
+loop-holds c = (c.requires, refl)
 
 mul-if1 : tie.Need-overflow-mul-if1 invariant-loop decreases-loop
 mul-if1 c = search rules
@@ -53,7 +53,7 @@ goes-on-spec =
     (tie.spec
     invariant-loop
     decreases-loop
-    loop_holds
+    loop-holds
     mul-if1
     shared-slice-read-if1
     returns

@@ -7,7 +7,7 @@ use lib.ListN.{length}
 use lib.Ieee.{of_bits}
 use Rattle.leaves.specs.Tests.{Test}
 use Rattle.leaves.proofs.Refusals.{stopped, test_met, went_to, past}
-use Rattle.factor.specs.Tests.{finite_not_nan, not_above}
+use Rattle.factor.specs.Tests.{finite_number, not_above}
 use Rattle.calls.specs.Tests.{marked_room_tests, form_test, free_test}
 use Rattle.calls.proofs.Measured.{gradient_first}
 use Rattle.calls.proofs.measure.check_gradient.Statement.{statement}
@@ -21,7 +21,7 @@ returns c =
     let g = c.before.before.before.args in
     let ts = marked_room_tests g.st g.store (length g.order.now) ++ (form_test g.st g.order.now ∷ []) in
     let low : Test = (not_above g.bnorm, 7) in
-    let us = finite_not_nan g.bnorm ∷ low ∷ free_test g.st ∷ [] in
+    let us = finite_number g.bnorm ∷ low ∷ free_test g.st ∷ [] in
     let e = gradient_first g.st g.store g.order.now c.before.ordered.ensures in
     sym (stopped ts us _ e c.if1.true)
 
@@ -35,7 +35,7 @@ returns-2 c =
     let low : Test = (not_above g.bnorm, 7) in
     let us = low ∷ free_test g.st ∷ [] in
     let e = gradient_first g.st g.store g.order.now c.before.before.before.ordered.ensures in
-    went_to ts (finite_not_nan g.bnorm ∷ us) refl e c.before.before.if1.false (sym (test_met (finite_not_nan g.bnorm) us (ap not (sym c.before.is_finite.ensures) ∙ c.if2.true)))
+    went_to ts (finite_number g.bnorm ∷ us) refl e c.before.before.if1.false (sym (test_met (finite_number g.bnorm) us (ap not (sym c.before.is_finite.ensures) ∙ c.if2.true)))
 
 returns-3 : tie.Need-returns-3
 unfolding of_bits
@@ -45,8 +45,8 @@ returns-3 c =
     let low : Test = (not_above g.bnorm, 7) in
     let us = low ∷ free_test g.st ∷ [] in
     let e = gradient_first g.st g.store g.order.now c.before.before.before.before.ordered.ensures in
-    went_to ts (finite_not_nan g.bnorm ∷ us) refl e c.before.before.before.if1.false
-    (past (finite_not_nan g.bnorm) us (ap not (sym c.before.before.is_finite.ensures) ∙ c.before.if2.false) (sym (test_met low (free_test g.st ∷ []) c.if3.true)))
+    went_to ts (finite_number g.bnorm ∷ us) refl e c.before.before.before.if1.false
+    (past (finite_number g.bnorm) us (ap not (sym c.before.before.is_finite.ensures) ∙ c.before.if2.false) (sym (test_met low (free_test g.st ∷ []) c.if3.true)))
 
 some-free-requires : tie.Need-some-free-requires
 some-free-requires c κs = search rules
@@ -59,8 +59,8 @@ returns-4 c =
     let low : Test = (not_above g.bnorm, 7) in
     let us = low ∷ free_test g.st ∷ [] in
     let e = gradient_first g.st g.store g.order.now c.before.before.before.before.before.ordered.ensures in
-    went_to ts (finite_not_nan g.bnorm ∷ us) refl e c.before.before.before.before.if1.false
-    (past (finite_not_nan g.bnorm) us (ap not (sym c.before.before.before.is_finite.ensures) ∙ c.before.before.if2.false) (past low (free_test g.st ∷ []) c.before.if3.false c.some-free.ensures))
+    went_to ts (finite_number g.bnorm ∷ us) refl e c.before.before.before.before.if1.false
+    (past (finite_number g.bnorm) us (ap not (sym c.before.before.before.is_finite.ensures) ∙ c.before.before.if2.false) (past low (free_test g.st ∷ []) c.before.if3.false c.some-free.ensures))
 
 pub check-gradient-spec : {M : Type 1} → statement M
 check-gradient-spec =

@@ -18,8 +18,8 @@ invariant-loop free order₀ k₀ order k =
 abbrev decreases-loop : tie.decreases-loop
 decreases-loop free order₀ k₀ order k = length order - k
 
-loop_holds : tie.Need-loop-init invariant-loop decreases-loop
-loop_holds c =
+loop-holds : tie.Need-loop-init invariant-loop decreases-loop
+loop-holds c =
     let g = c.args in
     (search rules, search rules, refl, counted_start g.free g.order.now (search rules))
 
@@ -67,7 +67,7 @@ count-on-spec =
     (tie.spec
     invariant-loop
     decreases-loop
-    loop_holds
+    loop-holds
     mul-order
     slice-write-order
     add-k

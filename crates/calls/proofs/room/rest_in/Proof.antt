@@ -1,4 +1,4 @@
--- `calls::room::rest_in` meets its contract. Assumes nothing.
+-- `calls::room::rest_in_lem` meets its contract. Assumes nothing.
 use borrow.Author.Rules.{rules}
 use Rattle.calls.proofs.Ways.{rest_worked}
 use Rattle.calls.proofs.room.rest_in.Statement.{statement}

@@ -10,7 +10,7 @@ use lib.Seq.{length-take-le}
 use lib.Ieee.{of_bits}
 use Rattle.leaves.specs.Tests.{Test, first_of}
 use Rattle.leaves.proofs.Refusals.{stopped, test_met, went_to, past}
-use Rattle.factor.specs.Tests.{finite_test, finite_not_nan, not_above}
+use Rattle.factor.specs.Tests.{finite_test, finite_number, not_above}
 use Rattle.calls.specs.State.{whole}
 use Rattle.calls.specs.Tests.{marked_room_tests, free_test}
 use Rattle.calls.proofs.Measured.{room_long}
@@ -28,7 +28,7 @@ returns c =
     let g = c.before.before.before.before.before.args in
     let ts = marked_room_tests g.st g.store (min (length g.diag.now) (length g.x.now)) in
     let f = finite_test (whole g.st) g.x.now in
-    let n = finite_not_nan g.bound in
+    let n = finite_number g.bound in
     let low : Test = (not_above g.bound, 7) in
     let us = f ∷ n ∷ low ∷ free_test g.st ∷ [] in
     let e : c.before.room.result ≡ first_of ts = rw (← c.before.before.least.ensures) c.before.room.ensures in
@@ -49,7 +49,7 @@ returns-2 c =
     let g = c.before.before.before.before.before.before.before.before.args in
     let ts = marked_room_tests g.st g.store (min (length g.diag.now) (length g.x.now)) in
     let f = finite_test (whole g.st) g.x.now in
-    let n = finite_not_nan g.bound in
+    let n = finite_number g.bound in
     let low : Test = (not_above g.bound, 7) in
     let us = n ∷ low ∷ free_test g.st ∷ [] in
     let e : c.before.before.before.before.room.result ≡ first_of ts = rw (← c.before.before.before.before.before.least.ensures) c.before.before.before.before.room.ensures in
@@ -63,7 +63,7 @@ returns-3 c =
     let g = c.before.before.before.before.before.before.before.before.before.before.args in
     let ts = marked_room_tests g.st g.store (min (length g.diag.now) (length g.x.now)) in
     let f = finite_test (whole g.st) g.x.now in
-    let n = finite_not_nan g.bound in
+    let n = finite_number g.bound in
     let low : Test = (not_above g.bound, 7) in
     let us = low ∷ free_test g.st ∷ [] in
     let e : c.before.before.before.before.before.before.room.result ≡ first_of ts = rw (← c.before.before.before.before.before.before.before.least.ensures) c.before.before.before.before.before.before.room.ensures in
@@ -76,7 +76,7 @@ returns-4 c =
     let g = c.before.before.before.before.before.before.before.before.before.before.before.args in
     let ts = marked_room_tests g.st g.store (min (length g.diag.now) (length g.x.now)) in
     let f = finite_test (whole g.st) g.x.now in
-    let n = finite_not_nan g.bound in
+    let n = finite_number g.bound in
     let low : Test = (not_above g.bound, 7) in
     let us = free_test g.st ∷ [] in
     let e : c.before.before.before.before.before.before.before.room.result ≡ first_of ts = rw (← c.before.before.before.before.before.before.before.before.least.ensures) c.before.before.before.before.before.before.before.room.ensures in
@@ -93,7 +93,7 @@ returns-5 c =
     let g = c.before.before.before.before.before.before.before.before.before.before.before.before.args in
     let ts = marked_room_tests g.st g.store (min (length g.diag.now) (length g.x.now)) in
     let f = finite_test (whole g.st) g.x.now in
-    let n = finite_not_nan g.bound in
+    let n = finite_number g.bound in
     let low : Test = (not_above g.bound, 7) in
     let us = free_test g.st ∷ [] in
     let e : c.before.before.before.before.before.before.before.before.room.result ≡ first_of ts = rw (← c.before.before.before.before.before.before.before.before.before.least.ensures) c.before.before.before.before.before.before.before.before.room.ensures in

@@ -19,8 +19,8 @@ invariant-loop n free small square₀ k₀ square k =
 abbrev decreases-loop : tie.decreases-loop
 decreases-loop n free small square₀ k₀ square k = free - k
 
-loop_holds : tie.Need-loop-init invariant-loop decreases-loop
-loop_holds c = (search rules, c.before.before.requires.0, refl, c.before.before.requires.1.1.1)
+loop-holds : tie.Need-loop-init invariant-loop decreases-loop
+loop-holds c = (search rules, c.before.before.requires.0, refl, c.before.before.requires.1.1.1)
 
 widen-column-requires : tie.Need-widen-column-requires invariant-loop decreases-loop
 widen-column-requires c κs = search rules
@@ -60,7 +60,7 @@ widen-columns-spec =
     (tie.spec
     invariant-loop
     decreases-loop
-    loop_holds
+    loop-holds
     widen-column-requires
     add-k
     loop-less

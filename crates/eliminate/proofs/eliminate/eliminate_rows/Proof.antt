@@ -16,8 +16,8 @@ invariant-loop square₀ n ds rhs₀ ldiag₀ saved j₀ square rhs ldiag j = (j
 abbrev decreases-loop : tie.decreases-loop
 decreases-loop square₀ n ds rhs₀ ldiag₀ saved j₀ square rhs ldiag j = n - j
 
-loop_holds : tie.Need-loop-init invariant-loop decreases-loop
-loop_holds c =
+loop-holds : tie.Need-loop-init invariant-loop decreases-loop
+loop-holds c =
     let g = c.before.before.before.before.before.args in
     let p = c.before.before.before.before.before.requires in
     (search rules, refl, search rules, search rules, ap length p.1.1.1.1 ∙ heads-length (edges_of g.n g.square.now) ∙ edges_of-length g.n g.square.now, settle_none g.n g.ds.now g.square.now g.rhs.now g.ldiag.now)
@@ -91,7 +91,7 @@ eliminate-rows-spec =
     (tie.spec
     invariant-loop
     decreases-loop
-    loop_holds
+    loop-holds
     mul-start-row
     shared-slice-read-start-row
     start-row-requires

@@ -13,8 +13,8 @@ invariant-loop square₀ n k₀ square k = (k ≤ n) × (length square ≡ lengt
 abbrev decreases-loop : tie.decreases-loop
 decreases-loop square₀ n k₀ square k = n - k
 
-loop_holds : tie.Need-loop-init invariant-loop decreases-loop
-loop_holds c = (search rules, refl, record { rows = refl; upper = refl })
+loop-holds : tie.Need-loop-init invariant-loop decreases-loop
+loop-holds c = (search rules, refl, record { rows = refl; upper = refl })
 
 mirror-column-requires : tie.Need-mirror-column-requires invariant-loop decreases-loop
 mirror-column-requires c κs = (record { small = c.before.before.before.before.requires.small; whole = c.before.before.loop.invariant.1 ∙ c.before.before.before.before.requires.whole }, search rules)
@@ -47,7 +47,7 @@ mirror-spec =
     (tie.spec
     invariant-loop
     decreases-loop
-    loop_holds
+    loop-holds
     mirror-column-requires
     add-k
     loop-less

@@ -16,8 +16,8 @@ decreases-loop square₀ n k i₀ square i = n - i
 add-i : tie.Need-overflow-add-i invariant-loop decreases-loop
 add-i c = search rules
 
-loop_holds : tie.Need-loop-init invariant-loop decreases-loop
-loop_holds c = (search rules, search rules, refl, column_start _ _ c.before.requires.0 _ c.before.requires.1)
+loop-holds : tie.Need-loop-init invariant-loop decreases-loop
+loop-holds c = (search rules, search rules, refl, column_start _ _ c.before.requires.0 _ c.before.requires.1)
 
 cell-at-requires : tie.Need-cell-at-requires invariant-loop decreases-loop
 cell-at-requires c κs = search rules
@@ -73,7 +73,7 @@ mirror-column-spec =
     invariant-loop
     decreases-loop
     add-i
-    loop_holds
+    loop-holds
     cell-at-requires
     cell-at-requires-2
     mul-square

@@ -16,9 +16,9 @@ invariant-loop square₀ n j l₀ rhs₀ q₀ k₀ square l rhs q k = (k ≤ n) 
 abbrev decreases-loop : tie.decreases-loop
 decreases-loop square₀ n j l₀ rhs₀ q₀ k₀ square l rhs q k = n - k
 
-loop_holds : tie.Need-loop-init invariant-loop decreases-loop
+loop-holds : tie.Need-loop-init invariant-loop decreases-loop
 unfolding of_bits
-loop_holds c = (search rules, refl, search rules, search rules, record { same = refl; above = refl })
+loop-holds c = (search rules, refl, search rules, search rules, record { same = refl; above = refl })
 
 rotate-place-requires : tie.Need-rotate-place-requires invariant-loop decreases-loop
 rotate-place-requires c κs = (record { small = c.before.before.before.before.before.before.before.before.requires.0.small; whole = c.before.before.before.before.loop.invariant.1 ∙ c.before.before.before.before.before.before.before.before.requires.0.whole }, (search rules, (search rules, search rules)))
@@ -56,7 +56,7 @@ rotate-row-spec =
     (tie.spec
     invariant-loop
     decreases-loop
-    loop_holds
+    loop-holds
     rotate-place-requires
     add-k
     loop-less

@@ -17,8 +17,8 @@ invariant-loop square n saved₀ j₀ saved j = (j ≤ n) × (length saved₀ �
 abbrev decreases-loop : tie.decreases-loop
 decreases-loop square n saved₀ j₀ saved j = n - j
 
-loop_holds : tie.Need-loop-init invariant-loop decreases-loop
-loop_holds c = (search rules, search rules, search rules, refl)
+loop-holds : tie.Need-loop-init invariant-loop decreases-loop
+loop-holds c = (search rules, search rules, search rules, refl)
 
 cell-at-requires : tie.Need-cell-at-requires invariant-loop decreases-loop
 cell-at-requires c κs = search rules
@@ -75,7 +75,7 @@ save-diagonal-spec =
     (tie.spec
     invariant-loop
     decreases-loop
-    loop_holds
+    loop-holds
     cell-at-requires
     mul-saved
     shared-slice-read-saved

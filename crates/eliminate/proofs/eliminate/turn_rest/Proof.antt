@@ -47,8 +47,8 @@ invariant-loop col₀ l₀ sin cos i₀ col l i = Turning (record { sin = sin; c
 abbrev decreases-loop : tie.decreases-loop
 decreases-loop col₀ l₀ sin cos i₀ col l i = length col₀ - i
 
-loop_holds : tie.Need-loop-init invariant-loop decreases-loop
-loop_holds c = record { same = c.requires; short = omega arith; col_long = refl; l_long = refl; col_done = refl; l_done = refl }
+loop-holds : tie.Need-loop-init invariant-loop decreases-loop
+loop-holds c = record { same = c.requires; short = omega arith; col_long = refl; l_long = refl; col_done = refl; l_done = refl }
 
 mul-x : tie.Need-overflow-mul-x invariant-loop decreases-loop
 mul-x c = search rules
@@ -112,7 +112,7 @@ turn-rest-spec =
     (tie.spec
     invariant-loop
     decreases-loop
-    loop_holds
+    loop-holds
     mul-x
     slice-read-x
     mul-y

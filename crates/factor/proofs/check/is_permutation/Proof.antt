@@ -18,8 +18,8 @@ decreases-loop order n met₀ k₀ met k = n - k
 unmarked-requires : tie.Need-unmarked-requires invariant-loop decreases-loop
 unmarked-requires c κs = search rules
 
-loop_holds : tie.Need-loop-init invariant-loop decreases-loop
-loop_holds c =
+loop-holds : tie.Need-loop-init invariant-loop decreases-loop
+loop-holds c =
     let e = c.unmarked.ensures in
     (ap length e, order-start c.before.before.args.n c.before.before.args.order.now _ e)
 
@@ -75,7 +75,7 @@ is-permutation-spec =
     invariant-loop
     decreases-loop
     unmarked-requires
-    loop_holds
+    loop-holds
     mul-o
     shared-slice-read-o
     returns

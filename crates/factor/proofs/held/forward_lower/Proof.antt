@@ -18,8 +18,8 @@ invariant-loop square n ldiag w₀ j₀ w j = (j ≤ n) × (length w ≡ n) × (
 abbrev decreases-loop : tie.decreases-loop
 decreases-loop square n ldiag w₀ j₀ w j = n - j
 
-loop_holds : tie.Need-loop-init invariant-loop decreases-loop
-loop_holds c = (search rules, c.before.before.before.requires.1.1, refl)
+loop-holds : tie.Need-loop-init invariant-loop decreases-loop
+loop-holds c = (search rules, c.before.before.before.requires.1.1, refl)
 
 mul-x : tie.Need-overflow-mul-x invariant-loop decreases-loop
 mul-x c = search rules
@@ -70,7 +70,7 @@ forward-lower-spec =
     (tie.spec
     invariant-loop
     decreases-loop
-    loop_holds
+    loop-holds
     mul-x
     slice-read-x
     mul-x-2

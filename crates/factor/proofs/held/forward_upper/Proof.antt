@@ -18,8 +18,8 @@ invariant-loop square n w₀ j₀ w j = (j ≤ n) × (length w ≡ n) × (forwar
 abbrev decreases-loop : tie.decreases-loop
 decreases-loop square n w₀ j₀ w j = n - j
 
-loop_holds : tie.Need-loop-init invariant-loop decreases-loop
-loop_holds c = (search rules, c.before.before.requires.1, refl)
+loop-holds : tie.Need-loop-init invariant-loop decreases-loop
+loop-holds c = (search rules, c.before.before.requires.1, refl)
 
 forward-place-requires : tie.Need-forward-place-requires invariant-loop decreases-loop
 forward-place-requires c κs =
@@ -58,7 +58,7 @@ forward-upper-spec =
     (tie.spec
     invariant-loop
     decreases-loop
-    loop_holds
+    loop-holds
     forward-place-requires
     add-j
     loop-less

@@ -18,8 +18,8 @@ invariant-loop square n q ldiag out₀ j₀ out j = (j ≤ n) × (length out ≡
 abbrev decreases-loop : tie.decreases-loop
 decreases-loop square n q ldiag out₀ j₀ out j = n - j
 
-loop_holds : tie.Need-loop-init invariant-loop decreases-loop
-loop_holds c = (search rules, c.before.before.before.before.requires.1.1.1, refl)
+loop-holds : tie.Need-loop-init invariant-loop decreases-loop
+loop-holds c = (search rules, c.before.before.before.before.requires.1.1.1, refl)
 
 mul-v : tie.Need-overflow-mul-v invariant-loop decreases-loop
 mul-v c = search rules
@@ -82,7 +82,7 @@ mul-onto-spec =
     (tie.spec
     invariant-loop
     decreases-loop
-    loop_holds
+    loop-holds
     mul-v
     slice-read-v
     mul-v-2

@@ -18,8 +18,8 @@ invariant-loop square n q out₀ j₀ out j = (j ≤ n) × (length out ≡ n) ×
 abbrev decreases-loop : tie.decreases-loop
 decreases-loop square n q out₀ j₀ out j = n - j
 
-loop_holds : tie.Need-loop-init invariant-loop decreases-loop
-loop_holds c = (search rules, c.before.before.before.requires.1.1, refl)
+loop-holds : tie.Need-loop-init invariant-loop decreases-loop
+loop-holds c = (search rules, c.before.before.before.requires.1.1, refl)
 
 row-times-requires : tie.Need-row-times-requires invariant-loop decreases-loop
 row-times-requires c κs =
@@ -64,7 +64,7 @@ mul-upper-spec =
     (tie.spec
     invariant-loop
     decreases-loop
-    loop_holds
+    loop-holds
     row-times-requires
     mul-out
     slice-write-out

@@ -14,11 +14,11 @@ within c = column_fits c.args.k (suc c.args.n) c.args.m (omega arith)
 small : (c : tie.Start) → suc c.args.n * c.args.m ≤ 17 * 128
 small c = let h : suc c.args.n ≤ 17 = omega arith in mul-le-mul h c.requires.0
 
-mul_result : tie.Need-overflow-mul-result
-mul_result c = omega (arith, within c, small c)
+mul-result : tie.Need-overflow-mul-result
+mul-result c = omega (arith, within c, small c)
 
 returns : tie.Need-returns
 returns c = (refl, within c)
 
 pub column-at-spec : {M : Type 1} → statement M
-column-at-spec = tie.close (tie.spec mul_result returns)
+column-at-spec = tie.close (tie.spec mul-result returns)

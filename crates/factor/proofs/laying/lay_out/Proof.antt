@@ -22,8 +22,8 @@ invariant-loop m n bench diag square₀ k₀ square k = (k ≤ n) × (length squ
 abbrev decreases-loop : tie.decreases-loop
 decreases-loop m n bench diag square₀ k₀ square k = n - k
 
-loop_holds : tie.Need-loop-init invariant-loop decreases-loop
-loop_holds c = let g = c.before.before.before.args in let z = zero-mul g.n in (search rules, refl, rw z refl)
+loop-holds : tie.Need-loop-init invariant-loop decreases-loop
+loop-holds c = let g = c.before.before.before.args in let z = zero-mul g.n in (search rules, refl, rw z refl)
 
 mul-lay-column : tie.Need-overflow-mul-lay-column invariant-loop decreases-loop
 mul-lay-column c = search rules
@@ -73,7 +73,7 @@ lay-out-spec =
     (tie.spec
     invariant-loop
     decreases-loop
-    loop_holds
+    loop-holds
     mul-lay-column
     shared-slice-read-lay-column
     lay-column-requires

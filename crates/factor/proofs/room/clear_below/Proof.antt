@@ -16,8 +16,8 @@ invariant-loop square₀ n k₀ square k = (k ≤ n) × (Square n square) × (up
 abbrev decreases-loop : tie.decreases-loop
 decreases-loop square₀ n k₀ square k = n - k
 
-loop_holds : tie.Need-loop-init invariant-loop decreases-loop
-loop_holds c = (search rules, c.before.requires, refl, cleared_none _)
+loop-holds : tie.Need-loop-init invariant-loop decreases-loop
+loop-holds c = (search rules, c.before.requires, refl, cleared_none _)
 
 clear-column-requires : tie.Need-clear-column-requires invariant-loop decreases-loop
 clear-column-requires c κs = search rules
@@ -56,7 +56,7 @@ clear-below-spec =
     (tie.spec
     invariant-loop
     decreases-loop
-    loop_holds
+    loop-holds
     clear-column-requires
     add-k
     loop-less

@@ -14,17 +14,17 @@ square c = mul-le-mul c.requires.0 c.requires.0
 within : (c : tie.Start) → c.args.k * c.args.n + c.args.n ≤ 4 * c.args.n
 within c = column_fits c.args.k 4 c.args.n c.requires.2
 
-mul_result : tie.Need-overflow-mul-result
-mul_result c = omega (arith, square c)
+mul-result : tie.Need-overflow-mul-result
+mul-result c = omega (arith, square c)
 
 mul-result-2 : tie.Need-overflow-mul-result-2
 mul-result-2 c = omega (arith, within c)
 
-add_result : tie.Need-overflow-add-result
-add_result c = omega (arith, square c, within c)
+add-result : tie.Need-overflow-add-result
+add-result c = omega (arith, square c, within c)
 
 returns : tie.Need-returns
 returns c = (refl, omega (arith, within c))
 
 pub part-at-spec : {M : Type 1} → statement M
-part-at-spec = tie.close (tie.spec mul_result mul-result-2 add_result returns)
+part-at-spec = tie.close (tie.spec mul-result mul-result-2 add-result returns)

@@ -16,8 +16,8 @@ invariant-loop square n full ldiag w₀ j₀ w j = (j ≤ full) × (length w ≡
 abbrev decreases-loop : tie.decreases-loop
 decreases-loop square n full ldiag w₀ j₀ w j = j
 
-loop_holds : tie.Need-loop-init invariant-loop decreases-loop
-loop_holds c =
+loop-holds : tie.Need-loop-init invariant-loop decreases-loop
+loop-holds c =
     let g = c.before.before.before.args in
     let z = belows_of-length g.n g.square.now in
     (search rules, refl, back_none g.ldiag.now (belows_of g.n g.square.now) g.w.now g.full (omega arith) (omega arith) (omega arith))
@@ -56,7 +56,7 @@ backward-from-spec =
     (tie.spec
     invariant-loop
     decreases-loop
-    loop_holds
+    loop-holds
     sub-j
     backward-place-requires
     loop-less

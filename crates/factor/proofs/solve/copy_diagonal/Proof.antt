@@ -17,8 +17,8 @@ invariant-loop square n w₀ k₀ w k = (k ≤ n) × (length w ≡ n) × (length
 abbrev decreases-loop : tie.decreases-loop
 decreases-loop square n w₀ k₀ w k = n - k
 
-loop_holds : tie.Need-loop-init invariant-loop decreases-loop
-loop_holds c = (search rules, search rules, search rules, refl)
+loop-holds : tie.Need-loop-init invariant-loop decreases-loop
+loop-holds c = (search rules, search rules, search rules, refl)
 
 diagonal-at-requires : tie.Need-diagonal-at-requires invariant-loop decreases-loop
 diagonal-at-requires c κs =
@@ -64,7 +64,7 @@ copy-diagonal-spec =
     (tie.spec
     invariant-loop
     decreases-loop
-    loop_holds
+    loop-holds
     diagonal-at-requires
     mul-w
     slice-write-w

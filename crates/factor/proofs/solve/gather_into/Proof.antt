@@ -18,8 +18,8 @@ invariant-loop order n xs w₀ k₀ w k = (k ≤ n) × (length w ≡ length w₀
 abbrev decreases-loop : tie.decreases-loop
 decreases-loop order n xs w₀ k₀ w k = n - k
 
-loop_holds : tie.Need-loop-init invariant-loop decreases-loop
-loop_holds c = (search rules, refl, refl)
+loop-holds : tie.Need-loop-init invariant-loop decreases-loop
+loop-holds c = (search rules, refl, refl)
 
 mul-o : tie.Need-overflow-mul-o invariant-loop decreases-loop
 mul-o c = search rules
@@ -73,7 +73,7 @@ gather-into-spec =
     (tie.spec
     invariant-loop
     decreases-loop
-    loop_holds
+    loop-holds
     mul-o
     shared-slice-read-o
     mul-w

@@ -22,8 +22,8 @@ decreases-loop square m n k₀ k = n - k
 returns : tie.Need-returns invariant-loop decreases-loop
 returns c = singular_few _ _ _ c.if1.true
 
-loop_holds : tie.Need-loop-init invariant-loop decreases-loop
-loop_holds c = (search rules, c.if1.false, refl)
+loop-holds : tie.Need-loop-init invariant-loop decreases-loop
+loop-holds c = (search rules, c.if1.false, refl)
 
 diagonal-at-requires : tie.Need-diagonal-at-requires invariant-loop decreases-loop
 diagonal-at-requires c κs =
@@ -70,7 +70,7 @@ non-singular-spec =
     invariant-loop
     decreases-loop
     returns
-    loop_holds
+    loop-holds
     diagonal-at-requires
     returns-2
     add-k

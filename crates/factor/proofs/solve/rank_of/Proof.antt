@@ -19,8 +19,8 @@ invariant-loop square n top k₀ k = (k ≤ top) × (k + rank (drop k (take top 
 abbrev decreases-loop : tie.decreases-loop
 decreases-loop square n top k₀ k = top - k
 
-loop_holds : tie.Need-loop-init invariant-loop decreases-loop
-loop_holds c = (search rules, zero-add _)
+loop-holds : tie.Need-loop-init invariant-loop decreases-loop
+loop-holds c = (search rules, zero-add _)
 
 diagonal-at-requires : tie.Need-diagonal-at-requires invariant-loop decreases-loop
 diagonal-at-requires c κs =
@@ -66,7 +66,7 @@ rank-of-spec =
     (tie.spec
     invariant-loop
     decreases-loop
-    loop_holds
+    loop-holds
     diagonal-at-requires
     returns
     add-k

@@ -16,8 +16,8 @@ invariant-loop ldiag k₀ k = (k ≤ length ldiag) × (k + rank (drop k ldiag) �
 abbrev decreases-loop : tie.decreases-loop
 decreases-loop ldiag k₀ k = length ldiag - k
 
-loop_holds : tie.Need-loop-init invariant-loop decreases-loop
-loop_holds c = (search rules, zero-add _)
+loop-holds : tie.Need-loop-init invariant-loop decreases-loop
+loop-holds c = (search rules, zero-add _)
 
 mul-if1 : tie.Need-overflow-mul-if1 invariant-loop decreases-loop
 mul-if1 c = search rules
@@ -48,7 +48,7 @@ rank-of-diag-spec =
     (tie.spec
     invariant-loop
     decreases-loop
-    loop_holds
+    loop-holds
     mul-if1
     shared-slice-read-if1
     returns

@@ -16,8 +16,8 @@ invariant-loop order n w out₀ k₀ out k = (k ≤ n) × (length out ≡ length
 abbrev decreases-loop : tie.decreases-loop
 decreases-loop order n w out₀ k₀ out k = n - k
 
-loop_holds : tie.Need-loop-init invariant-loop decreases-loop
-loop_holds c = (search rules, refl, refl)
+loop-holds : tie.Need-loop-init invariant-loop decreases-loop
+loop-holds c = (search rules, refl, refl)
 
 mul-o : tie.Need-overflow-mul-o invariant-loop decreases-loop
 mul-o c = search rules
@@ -67,7 +67,7 @@ scatter-into-spec =
     (tie.spec
     invariant-loop
     decreases-loop
-    loop_holds
+    loop-holds
     mul-o
     shared-slice-read-o
     mul-out

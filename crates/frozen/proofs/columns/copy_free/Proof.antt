@@ -24,8 +24,8 @@ invariant-loop m n marks src dst₀ x₀ a₀ b₀ left₀ dst x a b left =
 abbrev decreases-loop : tie.decreases-loop
 decreases-loop m n marks src dst₀ x₀ a₀ b₀ left₀ dst x a b left = left
 
-loop_holds : tie.Need-loop-init invariant-loop decreases-loop
-loop_holds c = (search rules, search rules, search rules, refl, refl)
+loop-holds : tie.Need-loop-init invariant-loop decreases-loop
+loop-holds c = (search rules, search rules, search rules, refl, refl)
 
 add-copy-of : tie.Need-overflow-add-copy-of invariant-loop decreases-loop
 add-copy-of c = let h = one_less c.before.before.loop.left c.before.before.before.before.before.args.m c.before.loop-test.true in search rules
@@ -133,7 +133,7 @@ copy-free-spec =
     (tie.spec
     invariant-loop
     decreases-loop
-    loop_holds
+    loop-holds
     add-copy-of
     mul-copy-of
     sub-copy-of

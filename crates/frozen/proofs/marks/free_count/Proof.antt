@@ -25,8 +25,8 @@ least-requires c κs = search rules
 sub-free : tie.Need-overflow-sub-free invariant-loop decreases-loop
 sub-free c = let h = min-le_left c.before.before.args.n 16 in rw c.least.ensures (search rules)
 
-loop_holds : tie.Need-loop-init invariant-loop decreases-loop
-loop_holds c =
+loop-holds : tie.Need-loop-init invariant-loop decreases-loop
+loop-holds c =
     let g = c.before.before.args in
     let h = min-le_left g.n 16 in
     rw c.least.ensures (search rules, search rules, count_sixteen g.n g.marks (search rules))
@@ -67,7 +67,7 @@ free-count-spec =
     returns
     least-requires
     sub-free
-    loop_holds
+    loop-holds
     add_free
     next-of-requires
     sub-left

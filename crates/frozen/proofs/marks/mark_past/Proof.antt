@@ -20,8 +20,8 @@ returns c = rw c.if1.true (sym (none_past c.before.args.n))
 returns-2 : tie.Need-returns-2 invariant-loop decreases-loop
 returns-2 c = let g = c.before.before.args in sym (past_sixteen g.n g.marks (search rules) c.if2.true)
 
-loop_holds : tie.Need-loop-init invariant-loop decreases-loop
-loop_holds c = (search rules, refl)
+loop-holds : tie.Need-loop-init invariant-loop decreases-loop
+loop-holds c = (search rules, refl)
 
 next-of-requires : tie.Need-next-of-requires invariant-loop decreases-loop
 next-of-requires c κs = search rules
@@ -48,7 +48,7 @@ mark-past-spec =
     decreases-loop
     returns
     returns-2
-    loop_holds
+    loop-holds
     next-of-requires
     sub-left
     loop-less

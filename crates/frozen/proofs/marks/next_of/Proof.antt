@@ -5,8 +5,8 @@ use Rattle.frozen.proofs.Turns.{next_free, next_frozen}
 use Rattle.frozen.proofs.marks.next_of.Statement.{statement}
 use Rattle.frozen.proofs.marks.next_of.Tie as tie
 
-mul_result : tie.Need-overflow-mul-result
-mul_result c = search rules
+mul-result : tie.Need-overflow-mul-result
+mul-result c = search rules
 
 mul-result-2 : tie.Need-overflow-mul-result-2
 mul-result-2 c = search rules
@@ -18,4 +18,4 @@ returns-2 : tie.Need-returns-2
 returns-2 c = sym (next_frozen c.before.args.x c.if1.false)
 
 pub next-of-spec : {M : Type 1} → statement M
-next-of-spec = tie.close (tie.spec mul_result mul-result-2 returns returns-2)
+next-of-spec = tie.close (tie.spec mul-result mul-result-2 returns returns-2)

@@ -33,8 +33,8 @@ returns-2 c =
     let h : length g.dst.now < free_count (marks_of g.n g.marks) = let e = c.before.free-count.ensures in search rules in
     gather_no_room g.n g.marks g.src.now g.dst.now c.before.before.if1.false h
 
-loop_holds : tie.Need-loop-init invariant-loop decreases-loop
-loop_holds c = (search rules, search rules, refl, rw sub-zero (zero-add _), refl, rw sub-zero refl)
+loop-holds : tie.Need-loop-init invariant-loop decreases-loop
+loop-holds c = (search rules, search rules, refl, rw sub-zero (zero-add _), refl, rw sub-zero refl)
 
 mul-dst : tie.Need-overflow-mul-dst invariant-loop decreases-loop
 mul-dst c = search rules
@@ -117,7 +117,7 @@ gather-free-spec =
     returns
     free-count-requires
     returns-2
-    loop_holds
+    loop-holds
     mul-dst
     shared-slice-read-dst
     mul-dst-2

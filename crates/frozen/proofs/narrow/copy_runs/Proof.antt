@@ -20,8 +20,8 @@ invariant-loop w apart count src dst₀ a₀ b₀ left₀ dst a b left =
 abbrev decreases-loop : tie.decreases-loop
 decreases-loop w apart count src dst₀ a₀ b₀ left₀ dst a b left = left
 
-loop_holds : tie.Need-loop-init invariant-loop decreases-loop
-loop_holds c = (search rules, search rules, refl, refl)
+loop-holds : tie.Need-loop-init invariant-loop decreases-loop
+loop-holds c = (search rules, search rules, refl, refl)
 
 add-copy-of : tie.Need-overflow-add-copy-of invariant-loop decreases-loop
 add-copy-of c = let h = one_less c.before.loop.left c.before.before.before.before.args.apart c.loop-test.true in search rules
@@ -109,7 +109,7 @@ copy-runs-spec =
     (tie.spec
     invariant-loop
     decreases-loop
-    loop_holds
+    loop-holds
     add-copy-of
     mul-copy-of
     sub-copy-of

@@ -22,8 +22,8 @@ invariant-loop w apart count src dst₀ a₀ b₀ left₀ dst a b left =
 abbrev decreases-loop : tie.decreases-loop
 decreases-loop w apart count src dst₀ a₀ b₀ left₀ dst a b left = left
 
-loop_holds : tie.Need-loop-init invariant-loop decreases-loop
-loop_holds c = (search rules, search rules, refl, refl)
+loop-holds : tie.Need-loop-init invariant-loop decreases-loop
+loop-holds c = (search rules, search rules, refl, refl)
 
 add-lay-run : tie.Need-overflow-add-lay-run invariant-loop decreases-loop
 add-lay-run c = let h = one_less c.before.loop.left c.before.before.before.before.args.w c.loop-test.true in search rules
@@ -115,7 +115,7 @@ lay-runs-spec =
     (tie.spec
     invariant-loop
     decreases-loop
-    loop_holds
+    loop-holds
     add-lay-run
     mul-lay-run
     sub-lay-run

@@ -12,8 +12,8 @@ decreases-loop store₀ p₀ turns₀ store p turns = turns
 none-requires : tie.Need-none-requires invariant-loop decreases-loop
 none-requires c κs = search rules
 
-loop_holds : tie.Need-loop-init invariant-loop decreases-loop
-loop_holds c = search rules
+loop-holds : tie.Need-loop-init invariant-loop decreases-loop
+loop-holds c = search rules
 
 same_length : tie.Need-same-length invariant-loop decreases-loop
 same_length c = search rules
@@ -46,7 +46,7 @@ all-spec =
     invariant-loop
     decreases-loop
     none-requires
-    loop_holds
+    loop-holds
     same_length
     returns
     some-requires

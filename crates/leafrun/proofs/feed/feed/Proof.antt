@@ -9,8 +9,8 @@ invariant-loop chunk store₀ q₀ i₀ store q i = length store ≡ length stor
 abbrev decreases-loop : tie.decreases-loop
 decreases-loop chunk store₀ q₀ i₀ store q i = length chunk - i
 
-loop_holds : tie.Need-loop-init invariant-loop decreases-loop
-loop_holds c = search rules
+loop-holds : tie.Need-loop-init invariant-loop decreases-loop
+loop-holds c = search rules
 
 same_length : tie.Need-same-length invariant-loop decreases-loop
 same_length c = search rules
@@ -42,7 +42,7 @@ feed-spec =
     (tie.spec
     invariant-loop
     decreases-loop
-    loop_holds
+    loop-holds
     same_length
     returns
     next-requires

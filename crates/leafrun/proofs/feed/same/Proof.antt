@@ -15,8 +15,8 @@ wrapping-add-usize-requires c κs = search rules
 returns : tie.Need-returns invariant-loop decreases-loop
 returns c = search rules
 
-loop_holds : tie.Need-loop-init invariant-loop decreases-loop
-loop_holds c = search rules
+loop-holds : tie.Need-loop-init invariant-loop decreases-loop
+loop-holds c = search rules
 
 wrapping-add-usize-requires-2 : tie.Need-wrapping-add-usize-requires-2 invariant-loop decreases-loop
 wrapping-add-usize-requires-2 c κs = search rules
@@ -50,7 +50,7 @@ same_spec =
     decreases-loop
     wrapping-add-usize-requires
     returns
-    loop_holds
+    loop-holds
     wrapping-add-usize-requires-2
     byte-requires
     byte-requires-2

@@ -9,8 +9,8 @@ invariant-loop counts compared₀ differ₀ at₀ k₀ compared differ at k = Un
 abbrev decreases-loop : tie.decreases-loop
 decreases-loop counts compared₀ differ₀ at₀ k₀ compared differ at k = 14 - k
 
-loop_holds : tie.Need-loop-init invariant-loop decreases-loop
-loop_holds c = search rules
+loop-holds : tie.Need-loop-init invariant-loop decreases-loop
+loop-holds c = search rules
 
 count-requires : tie.Need-count-requires invariant-loop decreases-loop
 count-requires c κs = search rules
@@ -51,7 +51,7 @@ report-spec =
     (tie.spec
     invariant-loop
     decreases-loop
-    loop_holds
+    loop-holds
     count-requires
     add-count
     count-requires-2

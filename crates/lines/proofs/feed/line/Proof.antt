@@ -11,8 +11,8 @@ invariant-loop chunk at room₀ fill k₀ i₀ room k i = (length room ≡ lengt
 abbrev decreases-loop : tie.decreases-loop
 decreases-loop chunk at room₀ fill k₀ i₀ room k i = length chunk - i
 
-loop_holds : tie.Need-loop-init invariant-loop decreases-loop
-loop_holds c = (refl, refl)
+loop-holds : tie.Need-loop-init invariant-loop decreases-loop
+loop-holds c = (refl, refl)
 
 shared-slice-read-b : tie.Need-shared-slice-read-b invariant-loop decreases-loop
 shared-slice-read-b c = search rules
@@ -54,7 +54,7 @@ line-spec =
     (tie.spec
     invariant-loop
     decreases-loop
-    loop_holds
+    loop-holds
     shared-slice-read-b
     add-i
     same_length

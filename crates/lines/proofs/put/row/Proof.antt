@@ -11,8 +11,8 @@ invariant-loop v out₀ at k₀ i₀ out k i = (length out ≡ length out₀) ×
 abbrev decreases-loop : tie.decreases-loop
 decreases-loop v out₀ at k₀ i₀ out k i = length v - i
 
-loop_holds : tie.Need-loop-init invariant-loop decreases-loop
-loop_holds c = (refl, refl)
+loop-holds : tie.Need-loop-init invariant-loop decreases-loop
+loop-holds c = (refl, refl)
 
 mul-double : tie.Need-overflow-mul-double invariant-loop decreases-loop
 mul-double c = search rules
@@ -46,7 +46,7 @@ row-spec =
     (tie.spec
     invariant-loop
     decreases-loop
-    loop_holds
+    loop-holds
     mul-double
     shared-slice-read-double
     double-requires

@@ -19,8 +19,8 @@ bad-requires c κs = search rules
 returns : tie.Need-returns invariant-loop decreases-loop
 returns c = (too_many _ _ _ _ _ c.bad.ensures c.before.if1.true, nothing _ _ _ _ c.bad.ensures)
 
-loop_holds : tie.Need-loop-init invariant-loop decreases-loop
-loop_holds c = (search rules, search rules, rest_start _ _ _ _ c.if1.false)
+loop-holds : tie.Need-loop-init invariant-loop decreases-loop
+loop-holds c = (search rules, search rules, rest_start _ _ _ _ c.if1.false)
 
 word-requires : tie.Need-word-requires invariant-loop decreases-loop
 word-requires c κs = search rules
@@ -72,7 +72,7 @@ doubles-spec =
     decreases-loop
     bad-requires
     returns
-    loop_holds
+    loop-holds
     word-requires
     bad-requires-2
     same_length

@@ -8,8 +8,8 @@ use Rattle.lines.proofs.scan.past_space.Tie as tie
 shared-slice-read-if2 : tie.Need-shared-slice-read-if2
 shared-slice-read-if2 c = search rules
 
-add_result : tie.Need-overflow-add-result
-add_result c = search rules
+add-result : tie.Need-overflow-add-result
+add-result c = search rules
 
 returns : tie.Need-returns
 unfolding past
@@ -24,4 +24,4 @@ unfolding past
 returns-3 c = rw (get_or-eq_default c.before.args.s.now 0 c.if1.false, past)
 
 pub past-space-spec : {M : Type 1} → statement M
-past-space-spec = tie.close (tie.spec shared-slice-read-if2 add_result returns returns-2 returns-3)
+past-space-spec = tie.close (tie.spec shared-slice-read-if2 add-result returns returns-2 returns-3)

@@ -20,8 +20,8 @@ invariant-loop square n b norms order limit j₀ j = (j ≤ n) × (above limit (
 abbrev decreases-loop : tie.decreases-loop
 decreases-loop square n b norms order limit j₀ j = n - j
 
-loop_holds : tie.Need-loop-init invariant-loop decreases-loop
-loop_holds c = (search rules, refl)
+loop-holds : tie.Need-loop-init invariant-loop decreases-loop
+loop-holds c = (search rules, refl)
 
 mul-column : tie.Need-overflow-mul-column invariant-loop decreases-loop
 mul-column c = search rules
@@ -89,7 +89,7 @@ above-of-spec =
     (tie.spec
     invariant-loop
     decreases-loop
-    loop_holds
+    loop-holds
     mul-column
     shared-slice-read-column
     mul-s

@@ -18,8 +18,8 @@ invariant-loop square n order x w₀ i₀ w i = (i ≤ n) × (length w ≡ lengt
 abbrev decreases-loop : tie.decreases-loop
 decreases-loop square n order x w₀ i₀ w i = n - i
 
-loop_holds : tie.Need-loop-init invariant-loop decreases-loop
-loop_holds c = (search rules, refl, refl)
+loop-holds : tie.Need-loop-init invariant-loop decreases-loop
+loop-holds c = (search rules, refl, refl)
 
 mul-o : tie.Need-overflow-mul-o invariant-loop decreases-loop
 mul-o c = search rules
@@ -70,7 +70,7 @@ combine-spec =
     (tie.spec
     invariant-loop
     decreases-loop
-    loop_holds
+    loop-holds
     mul-o
     shared-slice-read-o
     mul-add-column

@@ -17,8 +17,8 @@ invariant-loop v₀ d i₀ v i = (i ≤ length v₀) × (length v ≡ length v�
 abbrev decreases-loop : tie.decreases-loop
 decreases-loop v₀ d i₀ v i = length v₀ - i
 
-loop_holds : tie.Need-loop-init invariant-loop decreases-loop
-loop_holds c = (search rules, refl, refl)
+loop-holds : tie.Need-loop-init invariant-loop decreases-loop
+loop-holds c = (search rules, refl, refl)
 
 mul-v : tie.Need-overflow-mul-v invariant-loop decreases-loop
 mul-v c = search rules
@@ -63,7 +63,7 @@ divide-all-spec =
     (tie.spec
     invariant-loop
     decreases-loop
-    loop_holds
+    loop-holds
     mul-v
     slice-read-v
     mul-v-2

@@ -20,9 +20,9 @@ invariant-loop square n b norms order top₀ j₀ top j = (j ≤ n) × (largest 
 abbrev decreases-loop : tie.decreases-loop
 decreases-loop square n b norms order top₀ j₀ top j = n - j
 
-loop_holds : tie.Need-loop-init invariant-loop decreases-loop
+loop-holds : tie.Need-loop-init invariant-loop decreases-loop
 unfolding of_bits
-loop_holds c = (search rules, refl)
+loop-holds c = (search rules, refl)
 
 mul-o : tie.Need-overflow-mul-o invariant-loop decreases-loop
 mul-o c = search rules
@@ -93,7 +93,7 @@ measure-of-spec =
     (tie.spec
     invariant-loop
     decreases-loop
-    loop_holds
+    loop-holds
     mul-o
     shared-slice-read-o
     mul-s

@@ -28,8 +28,8 @@ limit-of-requires c κs = search rules
 least-requires : tie.Need-least-requires invariant-loop decreases-loop
 least-requires c κs = search rules
 
-loop_holds : tie.Need-loop-init invariant-loop decreases-loop
-loop_holds c = (search rules, zero-add _)
+loop-holds : tie.Need-loop-init invariant-loop decreases-loop
+loop-holds c = (search rules, zero-add _)
 
 mul-abs : tie.Need-overflow-mul-abs invariant-loop decreases-loop
 mul-abs c = let e = c.before.before.least.ensures in search rules
@@ -91,7 +91,7 @@ determined-of-spec =
     shared-slice-read-limit-of
     limit-of-requires
     least-requires
-    loop_holds
+    loop-holds
     mul-abs
     shared-slice-read-abs
     abs-requires

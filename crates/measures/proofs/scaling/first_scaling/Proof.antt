@@ -16,8 +16,8 @@ invariant-loop norms d₀ i₀ d i = (i ≤ length d₀) × (length d ≡ length
 abbrev decreases-loop : tie.decreases-loop
 decreases-loop norms d₀ i₀ d i = length d₀ - i
 
-loop_holds : tie.Need-loop-init invariant-loop decreases-loop
-loop_holds c = (search rules, refl, refl)
+loop-holds : tie.Need-loop-init invariant-loop decreases-loop
+loop-holds c = (search rules, refl, refl)
 
 mul-first-entry : tie.Need-overflow-mul-first-entry invariant-loop decreases-loop
 mul-first-entry c = search rules
@@ -69,7 +69,7 @@ first-scaling-spec =
     (tie.spec
     invariant-loop
     decreases-loop
-    loop_holds
+    loop-holds
     mul-first-entry
     shared-slice-read-first-entry
     first-entry-requires

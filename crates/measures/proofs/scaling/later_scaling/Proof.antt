@@ -16,8 +16,8 @@ invariant-loop norms d₀ i₀ d i = (i ≤ length d₀) × (length d ≡ length
 abbrev decreases-loop : tie.decreases-loop
 decreases-loop norms d₀ i₀ d i = length d₀ - i
 
-loop_holds : tie.Need-loop-init invariant-loop decreases-loop
-loop_holds c = (search rules, refl, refl)
+loop-holds : tie.Need-loop-init invariant-loop decreases-loop
+loop-holds c = (search rules, refl, refl)
 
 mul-max : tie.Need-overflow-mul-max invariant-loop decreases-loop
 mul-max c = search rules
@@ -75,7 +75,7 @@ later-scaling-spec =
     (tie.spec
     invariant-loop
     decreases-loop
-    loop_holds
+    loop-holds
     mul-max
     shared-slice-read-max
     mul-max-2

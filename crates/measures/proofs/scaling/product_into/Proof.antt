@@ -16,8 +16,8 @@ invariant-loop a b w₀ i₀ w i = (i ≤ length w₀) × (length w ≡ length w
 abbrev decreases-loop : tie.decreases-loop
 decreases-loop a b w₀ i₀ w i = length w₀ - i
 
-loop_holds : tie.Need-loop-init invariant-loop decreases-loop
-loop_holds c = (search rules, refl, refl)
+loop-holds : tie.Need-loop-init invariant-loop decreases-loop
+loop-holds c = (search rules, refl, refl)
 
 mul-w : tie.Need-overflow-mul-w invariant-loop decreases-loop
 mul-w c = search rules
@@ -72,7 +72,7 @@ product-into-spec =
     (tie.spec
     invariant-loop
     decreases-loop
-    loop_holds
+    loop-holds
     mul-w
     shared-slice-read-w
     mul-w-2

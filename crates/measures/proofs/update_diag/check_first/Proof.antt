@@ -9,7 +9,7 @@ use lib.ListN.{length}
 use lib.Seq.{length-take-le}
 use lib.Ieee.{of_bits}
 use Rattle.leaves.specs.Tests.{Test, first_of}
-use Rattle.factor.specs.Tests.{room_tests, finite_test, finite_not_nan, not_above}
+use Rattle.factor.specs.Tests.{room_tests, finite_test, finite_number, not_above}
 use Rattle.leaves.proofs.Refusals.{stopped, test_met, went_to, past, none_left}
 use Rattle.factor.proofs.Passed.{room_passed}
 use Rattle.measures.proofs.update_diag.check_first.Statement.{statement}
@@ -26,7 +26,7 @@ returns c =
     let g = c.before.before.before.before.before.args in
     let ts = room_tests g.st g.store (min (length g.diag.now) (length g.x.now)) in
     let f = finite_test g.st g.x.now in
-    let n = finite_not_nan g.bound in
+    let n = finite_number g.bound in
     let low : Test = (not_above g.bound, 7) in
     let us = f ∷ n ∷ low ∷ [] in
     let e : c.before.room.result ≡ first_of ts = rw (← c.before.before.least.ensures) c.before.room.ensures in
@@ -47,7 +47,7 @@ returns-2 c =
     let g = c.before.before.before.before.before.before.before.before.args in
     let ts = room_tests g.st g.store (min (length g.diag.now) (length g.x.now)) in
     let f = finite_test g.st g.x.now in
-    let n = finite_not_nan g.bound in
+    let n = finite_number g.bound in
     let low : Test = (not_above g.bound, 7) in
     let us = f ∷ n ∷ low ∷ [] in
     let e : c.before.before.before.before.room.result ≡ first_of ts = rw (← c.before.before.before.before.before.least.ensures) c.before.before.before.before.room.ensures in
@@ -61,7 +61,7 @@ returns-3 c =
     let g = c.before.before.before.before.before.before.before.before.before.before.args in
     let ts = room_tests g.st g.store (min (length g.diag.now) (length g.x.now)) in
     let f = finite_test g.st g.x.now in
-    let n = finite_not_nan g.bound in
+    let n = finite_number g.bound in
     let low : Test = (not_above g.bound, 7) in
     let us = f ∷ n ∷ low ∷ [] in
     let e : c.before.before.before.before.before.before.room.result ≡ first_of ts = rw (← c.before.before.before.before.before.before.before.least.ensures) c.before.before.before.before.before.before.room.ensures in
@@ -73,7 +73,7 @@ returns-4 c =
     let g = c.before.before.before.before.before.before.before.before.before.before.before.args in
     let ts = room_tests g.st g.store (min (length g.diag.now) (length g.x.now)) in
     let f = finite_test g.st g.x.now in
-    let n = finite_not_nan g.bound in
+    let n = finite_number g.bound in
     let low : Test = (not_above g.bound, 7) in
     let us = f ∷ n ∷ low ∷ [] in
     let e : c.before.before.before.before.before.before.before.room.result ≡ first_of ts = rw (← c.before.before.before.before.before.before.before.before.least.ensures) c.before.before.before.before.before.before.before.room.ensures in
@@ -85,7 +85,7 @@ returns-5 c =
     let g = c.before.before.before.before.before.before.before.before.before.before.before.args in
     let ts = room_tests g.st g.store (min (length g.diag.now) (length g.x.now)) in
     let f = finite_test g.st g.x.now in
-    let n = finite_not_nan g.bound in
+    let n = finite_number g.bound in
     let low : Test = (not_above g.bound, 7) in
     let us = f ∷ n ∷ low ∷ [] in
     let e : c.before.before.before.before.before.before.before.room.result ≡ first_of ts = rw (← c.before.before.before.before.before.before.before.before.least.ensures) c.before.before.before.before.before.before.before.room.ensures in

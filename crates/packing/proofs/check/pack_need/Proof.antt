@@ -4,11 +4,11 @@ use Rattle.packing.proofs.Corners.{triangle_small}
 use Rattle.packing.proofs.check.pack_need.Statement.{statement}
 use Rattle.packing.proofs.check.pack_need.Tie as tie
 
-add_result : tie.Need-overflow-add-result
-add_result c = search rules
+add-result : tie.Need-overflow-add-result
+add-result c = search rules
 
-mul_result : tie.Need-overflow-mul-result
-mul_result c = let t = triangle_small c.args.n c.requires in search rules
+mul-result : tie.Need-overflow-mul-result
+mul-result c = let t = triangle_small c.args.n c.requires in search rules
 
 mul-result-2 : tie.Need-overflow-mul-result-2
 mul-result-2 c = search rules
@@ -20,4 +20,4 @@ returns : tie.Need-returns
 returns c = search rules
 
 pub pack-need-spec : {M : Type 1} → statement M
-pack-need-spec = tie.close (tie.spec add_result mul_result mul-result-2 add-result-2 returns)
+pack-need-spec = tie.close (tie.spec add-result mul-result mul-result-2 add-result-2 returns)

@@ -23,8 +23,8 @@ invariant-loop n square corner₀ a₀ b₀ k₀ corner a b k =
 abbrev decreases-loop : tie.decreases-loop
 decreases-loop n square corner₀ a₀ b₀ k₀ corner a b k = n - k
 
-loop_holds : tie.Need-loop-init invariant-loop decreases-loop
-loop_holds c = (search rules, search rules, refl, refl, rw sub-zero refl)
+loop-holds : tie.Need-loop-init invariant-loop decreases-loop
+loop-holds c = (search rules, search rules, refl, refl, rw sub-zero refl)
 
 add-e : tie.Need-overflow-add-e invariant-loop decreases-loop
 add-e c =
@@ -173,7 +173,7 @@ pack-columns-spec =
     (tie.spec
     invariant-loop
     decreases-loop
-    loop_holds
+    loop-holds
     add-e
     add-e-2
     add-copy-of

@@ -15,8 +15,8 @@ invariant-loop n from to₀ k₀ to k = (k ≤ n) × (length to ≡ length to₀
 abbrev decreases-loop : tie.decreases-loop
 decreases-loop n from to₀ k₀ to k = n - k
 
-loop_holds : tie.Need-loop-init invariant-loop decreases-loop
-loop_holds c = (search rules, refl, refl)
+loop-holds : tie.Need-loop-init invariant-loop decreases-loop
+loop-holds c = (search rules, refl, refl)
 
 mul-to : tie.Need-overflow-mul-to invariant-loop decreases-loop
 mul-to c = search rules
@@ -58,7 +58,7 @@ place-spec =
     (tie.spec
     invariant-loop
     decreases-loop
-    loop_holds
+    loop-holds
     mul-to
     shared-slice-read-to
     mul-to-2

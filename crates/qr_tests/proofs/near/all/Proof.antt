@@ -9,8 +9,8 @@ invariant-loop v from expected epsilon good₀ i₀ good i = Unit {0}
 abbrev decreases-loop : tie.decreases-loop
 decreases-loop v from expected epsilon good₀ i₀ good i = length expected - i
 
-loop_holds : tie.Need-loop-init invariant-loop decreases-loop
-loop_holds c = search rules
+loop-holds : tie.Need-loop-init invariant-loop decreases-loop
+loop-holds c = search rules
 
 wrapping-add-usize-requires : tie.Need-wrapping-add-usize-requires invariant-loop decreases-loop
 wrapping-add-usize-requires c κs = search rules
@@ -45,7 +45,7 @@ all-spec =
     (tie.spec
     invariant-loop
     decreases-loop
-    loop_holds
+    loop-holds
     wrapping-add-usize-requires
     at-requires
     mul-relative-eq

@@ -4,8 +4,8 @@ use lib.Ieee.{nan_bits}
 use Rattle.qr_tests.proofs.near.at.Statement.{statement}
 use Rattle.qr_tests.proofs.near.at.Tie as tie
 
-mul_result : tie.Need-overflow-mul-result
-mul_result c = search rules
+mul-result : tie.Need-overflow-mul-result
+mul-result c = search rules
 
 array-read-result : tie.Need-array-read-result
 array-read-result c = search rules
@@ -23,4 +23,4 @@ returns-2 c = search rules
 pub at-spec : {M : Type 1} → statement M
 at-spec =
     tie.close
-    (tie.spec mul_result array-read-result float-from-bits-result returns returns-2)
+    (tie.spec mul-result array-read-result float-from-bits-result returns returns-2)

@@ -12,8 +12,8 @@ decreases-loop store expected epsilon apart good₀ from₀ i₀ good from i = l
 wrapping-add-usize-requires : tie.Need-wrapping-add-usize-requires invariant-loop decreases-loop
 wrapping-add-usize-requires c κs = search rules
 
-loop_holds : tie.Need-loop-init invariant-loop decreases-loop
-loop_holds c = search rules
+loop-holds : tie.Need-loop-init invariant-loop decreases-loop
+loop-holds c = search rules
 
 at-requires : tie.Need-at-requires invariant-loop decreases-loop
 at-requires c κs = search rules
@@ -49,7 +49,7 @@ diagonal-spec =
     invariant-loop
     decreases-loop
     wrapping-add-usize-requires
-    loop_holds
+    loop-holds
     at-requires
     mul-relative-eq
     shared-slice-read-relative-eq

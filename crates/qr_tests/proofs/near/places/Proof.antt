@@ -9,8 +9,8 @@ invariant-loop v expected good₀ i₀ good i = Unit {0}
 abbrev decreases-loop : tie.decreases-loop
 decreases-loop v expected good₀ i₀ good i = length expected - i
 
-loop_holds : tie.Need-loop-init invariant-loop decreases-loop
-loop_holds c = search rules
+loop-holds : tie.Need-loop-init invariant-loop decreases-loop
+loop-holds c = search rules
 
 place-requires : tie.Need-place-requires invariant-loop decreases-loop
 place-requires c κs = search rules
@@ -39,7 +39,7 @@ places-spec =
     (tie.spec
     invariant-loop
     decreases-loop
-    loop_holds
+    loop-holds
     place-requires
     mul-good
     shared-slice-read-good

@@ -186,10 +186,10 @@ module _ {M : Type 1} {𝓤 : Ura M} (𝓛 : Logic 𝓤) (mem : Memory → SProp
       (λ κs qs bounds a g are. via 𝓤 _ (fst∗ 𝓤 _ (emp 𝓤)) (walk 𝓛 mem run κs.0 κs.1.0 qs.0 qs.1.0 a.0 a.1.0.ref_ptr.0 a.1.0.ref_ptr.1 a.1.0.ghost_name a.1.0.now C Λ fm known
       ((LL.lawful (D κs) (L κs) 𝓛).typed a.0 _ are.0).0 (LL.owed (D κs) (L κs) a.0 _ are.0).1.0 are.1.0.0.1))
 
-mul_meets : {M : Type 1} {𝓤 : Ura M} (𝓛 : Logic 𝓤) (mem : Memory → SProp 𝓤) (run : Routine → Fun 𝓤) (𝓣 : Tables 𝓤 𝓛.H)
+mul-meets : {M : Type 1} {𝓤 : Ura M} (𝓛 : Logic 𝓤) (mem : Memory → SProp 𝓤) (run : Routine → Fun 𝓤) (𝓣 : Tables 𝓤 𝓛.H)
     → Triple 𝓤 (𝓣.C #mul-read) (At 𝓛 mem run)
     → Meets 𝓛 mul.signature (WpFn 𝓤 𝓛.H 𝓣.C 𝓣.Λ code.function) (mul.spec 𝓛 mem run)
-mul_meets {𝓤 = 𝓤} 𝓛 mem run 𝓣 known = walk_Meets 𝓛 mul.ended stayed (Goes-none 𝓛 2 B yes (λ κs x f. refl), (Goes-gave_slice 𝓛 2 1 tt (plain (λ _. f64)), tt)) (mul.clauses 𝓛 mem run) (WpFn 𝓤 𝓛.H 𝓣.C 𝓣.Λ code.function) (WpFn-mono 𝓤 𝓛.H 𝓛.laws 𝓣 code.function)
+mul-meets {𝓤 = 𝓤} 𝓛 mem run 𝓣 known = walk_Meets 𝓛 mul.ended stayed (Goes-none 𝓛 2 B yes (λ κs x f. refl), (Goes-gave_slice 𝓛 2 1 tt (plain (λ _. f64)), tt)) (mul.clauses 𝓛 mem run) (WpFn 𝓤 𝓛.H 𝓣.C 𝓣.Λ code.function) (WpFn-mono 𝓤 𝓛.H 𝓛.laws 𝓣 code.function)
     (mul_walks 𝓛 mem run 𝓣.C 𝓣.Λ (fm_of 𝓤 𝓛.H 𝓛.laws 𝓣) known)
 
 pub mul-qt-b-spec : {M : Type 1} → stated.statement M
@@ -197,5 +197,5 @@ unfolding code.routine tables_of
 mul-qt-b-spec 𝓤 𝓛 𝓜 𝓡 =
     entered 𝓤 𝓛.H (triple_of 𝓛 mul.signature (mul.spec 𝓛 𝓜.mem 𝓡.run))
     (tables 𝓤 𝓛.H 𝓜 𝓡 code.env).C (tables 𝓤 𝓛.H 𝓜 𝓡 code.env).Λ #mul-qt-b code.function (code.unfolded 𝓤 𝓛.H 𝓜 𝓡)
-    (mul_meets 𝓛 𝓜.mem 𝓡.run (tables_of 𝓤 𝓛.H 𝓜 (tables 𝓤 𝓛.H 𝓜 𝓡 code.env))
+    (mul-meets 𝓛 𝓜.mem 𝓡.run (tables_of 𝓤 𝓛.H 𝓜 (tables 𝓤 𝓛.H 𝓜 𝓡 code.env))
     (cited 𝓤 𝓛.H (At 𝓛 𝓜.mem 𝓡.run) 𝓜 𝓡 code.env #mul-read at-def.routine code.calls-calls::cholesky::mul-read (at-thm.met 𝓤 𝓛 𝓜 𝓡)))

@@ -217,10 +217,10 @@ module _ {M : Type 1} {𝓤 : Ura M} (𝓛 : Logic 𝓤) (mem : Memory → SProp
   goes : AllGo 𝓛 4 (solve.signature).params (solve.ended).kept stayed
   goes = (Goes-none 𝓛 4 B yes (λ κs x f. refl), (Goes-none_slice 𝓛 4 (1 ∷ []) tt (plain (λ _. usize)) yes, (Goes-none_slice 𝓛 4 (2 ∷ []) tt (plain (λ _. f64)) yes, (Goes-gave_slice 𝓛 4 3 tt (plain (λ _. f64)), tt))))
 
-solve_meets : {M : Type 1} {𝓤 : Ura M} (𝓛 : Logic 𝓤) (mem : Memory → SProp 𝓤) (run : Routine → Fun 𝓤) (𝓣 : Tables 𝓤 𝓛.H)
+solve-meets : {M : Type 1} {𝓤 : Ura M} (𝓛 : Logic 𝓤) (mem : Memory → SProp 𝓤) (run : Routine → Fun 𝓤) (𝓣 : Tables 𝓤 𝓛.H)
     → Triple 𝓤 (𝓣.C #solve-read) (At 𝓛 mem run)
     → Meets 𝓛 solve.signature (WpFn 𝓤 𝓛.H 𝓣.C 𝓣.Λ code.function) (solve.spec 𝓛 mem run)
-solve_meets {𝓤 = 𝓤} 𝓛 mem run 𝓣 known = walk_Meets 𝓛 solve.ended stayed (goes 𝓛 mem run) (solve.clauses 𝓛 mem run) (WpFn 𝓤 𝓛.H 𝓣.C 𝓣.Λ code.function) (WpFn-mono 𝓤 𝓛.H 𝓛.laws 𝓣 code.function)
+solve-meets {𝓤 = 𝓤} 𝓛 mem run 𝓣 known = walk_Meets 𝓛 solve.ended stayed (goes 𝓛 mem run) (solve.clauses 𝓛 mem run) (WpFn 𝓤 𝓛.H 𝓣.C 𝓣.Λ code.function) (WpFn-mono 𝓤 𝓛.H 𝓛.laws 𝓣 code.function)
     (solve_walks 𝓛 mem run 𝓣.C 𝓣.Λ (fm_of 𝓤 𝓛.H 𝓛.laws 𝓣) known)
 
 pub solve-spec : {M : Type 1} → stated.statement M
@@ -228,5 +228,5 @@ unfolding code.routine tables_of
 solve-spec 𝓤 𝓛 𝓜 𝓡 =
     entered 𝓤 𝓛.H (triple_of 𝓛 solve.signature (solve.spec 𝓛 𝓜.mem 𝓡.run))
     (tables 𝓤 𝓛.H 𝓜 𝓡 code.env).C (tables 𝓤 𝓛.H 𝓜 𝓡 code.env).Λ #solve code.function (code.unfolded 𝓤 𝓛.H 𝓜 𝓡)
-    (solve_meets 𝓛 𝓜.mem 𝓡.run (tables_of 𝓤 𝓛.H 𝓜 (tables 𝓤 𝓛.H 𝓜 𝓡 code.env))
+    (solve-meets 𝓛 𝓜.mem 𝓡.run (tables_of 𝓤 𝓛.H 𝓜 (tables 𝓤 𝓛.H 𝓜 𝓡 code.env))
     (cited 𝓤 𝓛.H (At 𝓛 𝓜.mem 𝓡.run) 𝓜 𝓡 code.env #solve-read at-def.routine code.calls-calls::cholesky::solve-read (at-thm.met 𝓤 𝓛 𝓜 𝓡)))

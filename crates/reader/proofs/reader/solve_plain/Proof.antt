@@ -258,10 +258,10 @@ module _ {M : Type 1} {𝓤 : Ura M} (𝓛 : Logic 𝓤) (mem : Memory → SProp
   goes : AllGo 𝓛 4 (plain_one.signature).params (plain_one.ended).kept stayed
   goes = (Goes-none_slice 𝓛 4 (0 ∷ []) tt (plain (λ _. f64)) yes, (Goes-none 𝓛 4 (λ _. Q.the_row) yes (λ κs x f. refl), (Goes-none_slice 𝓛 4 (1 ∷ []) tt (plain (λ _. usize)) yes, (Goes-none_slice 𝓛 4 (2 ∷ []) tt (plain (λ _. f64)) yes, (Goes-gave_slice 𝓛 4 3 tt (plain (λ _. f64)), tt)))))
 
-plain_meets : {M : Type 1} {𝓤 : Ura M} (𝓛 : Logic 𝓤) (mem : Memory → SProp 𝓤) (run : Routine → Fun 𝓤) (𝓣 : Tables 𝓤 𝓛.H)
+plain-meets : {M : Type 1} {𝓤 : Ura M} (𝓛 : Logic 𝓤) (mem : Memory → SProp 𝓤) (run : Routine → Fun 𝓤) (𝓣 : Tables 𝓤 𝓛.H)
     → Triple 𝓤 (𝓣.C #new) (New 𝓛 mem run) → Triple 𝓤 (𝓣.C #thin) (Thin 𝓛 mem run)
     → Meets 𝓛 plain_one.signature (WpFn 𝓤 𝓛.H 𝓣.C 𝓣.Λ code.function) (plain_one.spec 𝓛 mem run)
-plain_meets {𝓤 = 𝓤} 𝓛 mem run 𝓣 known-new known-thin =
+plain-meets {𝓤 = 𝓤} 𝓛 mem run 𝓣 known-new known-thin =
     walk_Meets 𝓛 plain_one.ended stayed (goes 𝓛 mem run) (plain_one.clauses 𝓛 mem run) (WpFn 𝓤 𝓛.H 𝓣.C 𝓣.Λ code.function) (WpFn-mono 𝓤 𝓛.H 𝓛.laws 𝓣 code.function)
     (plain_walks 𝓛 mem run 𝓣.C 𝓣.Λ (fm_of 𝓤 𝓛.H 𝓛.laws 𝓣) known-new known-thin)
 
@@ -270,6 +270,6 @@ unfolding code.routine tables_of
 solve-plain-spec 𝓤 𝓛 𝓜 𝓡 =
     entered 𝓤 𝓛.H (triple_of 𝓛 plain_one.signature (plain_one.spec 𝓛 𝓜.mem 𝓡.run))
     (tables 𝓤 𝓛.H 𝓜 𝓡 code.env).C (tables 𝓤 𝓛.H 𝓜 𝓡 code.env).Λ #plain code.function (code.unfolded 𝓤 𝓛.H 𝓜 𝓡)
-    (plain_meets 𝓛 𝓜.mem 𝓡.run (tables_of 𝓤 𝓛.H 𝓜 (tables 𝓤 𝓛.H 𝓜 𝓡 code.env))
+    (plain-meets 𝓛 𝓜.mem 𝓡.run (tables_of 𝓤 𝓛.H 𝓜 (tables 𝓤 𝓛.H 𝓜 𝓡 code.env))
     (cited 𝓤 𝓛.H (New 𝓛 𝓜.mem 𝓡.run) 𝓜 𝓡 code.env #new new-def.routine code.calls-reader::reader::new (new-thm.met 𝓤 𝓛 𝓜 𝓡))
     (cited 𝓤 𝓛.H (Thin 𝓛 𝓜.mem 𝓡.run) 𝓜 𝓡 code.env #thin thin-def.routine code.calls-reader::reader::solve (thin-thm.met 𝓤 𝓛 𝓜 𝓡)))

@@ -25,8 +25,8 @@ decreases-loop m n bench norms₀ seen₀ k₀ norms seen k = n - k
 neither-requires : tie.Need-neither-requires invariant-loop decreases-loop
 neither-requires c κs = search rules
 
-loop_holds : tie.Need-loop-init invariant-loop decreases-loop
-loop_holds c = (search rules, refl, refl, c.neither.ensures ∙ ranges_of_none)
+loop-holds : tie.Need-loop-init invariant-loop decreases-loop
+loop-holds c = (search rules, refl, refl, c.neither.ensures ∙ ranges_of_none)
 
 norm-from-requires : tie.Need-norm-from-requires invariant-loop decreases-loop
 norm-from-requires c κs = search rules
@@ -82,7 +82,7 @@ norms-in-spec =
     invariant-loop
     decreases-loop
     neither-requires
-    loop_holds
+    loop-holds
     norm-from-requires
     mul-norms
     slice-write-norms

@@ -32,8 +32,8 @@ begun e h = rw e h
 unseen : {r s : Reduction} {all : Ranges} (seen : Ranges) → r ≡ s → all ≡ seen → seen ≡ ranges_of s.cols → all ≡ ranges_of r.cols
 unseen seen e a h = a ∙ rw e h
 
-loop_holds : tie.Need-loop-init invariant-loop decreases-loop
-loop_holds c = let g = c.before.before.before.before.before.before.args in (search rules, c.least.ensures, refl, refl, refl, refl, refl, upto_none (reduced g.n) _, along_none (measured_at g.n) (reduced g.n) g.seen _)
+loop-holds : tie.Need-loop-init invariant-loop decreases-loop
+loop-holds c = let g = c.before.before.before.before.before.before.args in (search rules, c.least.ensures, refl, refl, refl, refl, refl, upto_none (reduced g.n) _, along_none (measured_at g.n) (reduced g.n) g.seen _)
 
 reduce-column-requires : tie.Need-reduce-column-requires invariant-loop decreases-loop
 reduce-column-requires c κs =
@@ -94,7 +94,7 @@ reduce-spec =
     invariant-loop
     decreases-loop
     least-requires
-    loop_holds
+    loop-holds
     reduce-column-requires
     add-j
     loop-less

@@ -18,8 +18,8 @@ invariant-loop m n j k bench₀ i₀ bench i = (i ≤ m) × (length bench ≡ le
 abbrev decreases-loop : tie.decreases-loop
 decreases-loop m n j k bench₀ i₀ bench i = m - i
 
-loop_holds : tie.Need-loop-init invariant-loop decreases-loop
-loop_holds c =
+loop-holds : tie.Need-loop-init invariant-loop decreases-loop
+loop-holds c =
     let g = c.before.args in
     let l = columns-length g.m (suc g.n) g.bench.now in
     (search rules, refl, fronts_none g.j g.k (grid g.m g.n g.bench.now) (omega arith) (omega arith))
@@ -63,7 +63,7 @@ swap-columns-spec =
     (tie.spec
     invariant-loop
     decreases-loop
-    loop_holds
+    loop-holds
     swap-places-requires
     add-i
     loop-less

@@ -16,8 +16,8 @@ invariant-loop col t axis₀ i₀ axis i = (i ≤ length col) × (length axis₀
 abbrev decreases-loop : tie.decreases-loop
 decreases-loop col t axis₀ i₀ axis i = length col - i
 
-loop_holds : tie.Need-loop-init invariant-loop decreases-loop
-loop_holds c = (search rules, search rules, refl, refl)
+loop-holds : tie.Need-loop-init invariant-loop decreases-loop
+loop-holds c = (search rules, search rules, refl, refl)
 
 mul-axis : tie.Need-overflow-mul-axis invariant-loop decreases-loop
 mul-axis c = search rules
@@ -61,7 +61,7 @@ divide-spec =
     (tie.spec
     invariant-loop
     decreases-loop
-    loop_holds
+    loop-holds
     mul-axis
     shared-slice-read-axis
     mul-axis-2

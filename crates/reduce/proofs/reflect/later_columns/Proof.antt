@@ -23,8 +23,8 @@ decreases-loop m n j axis bench₀ diag₀ work₀ all₀ k₀ bench diag work a
 add-k : tie.Need-overflow-add-k invariant-loop decreases-loop
 add-k c = search rules
 
-loop_holds : tie.Need-loop-init invariant-loop decreases-loop
-loop_holds c =
+loop-holds : tie.Need-loop-init invariant-loop decreases-loop
+loop-holds c =
     let g = c.before.before.before.before.args in
     let f = later g.j g.axis.now in
     (search rules, search rules, refl, refl, refl, λ o. rw add-one (between_none f (suc g.j) _), λ o. rw add-one (along_between_none (measured_later g.j g.axis.now) f g.seen _ (suc g.j)))
@@ -78,7 +78,7 @@ later-columns-spec =
     invariant-loop
     decreases-loop
     add-k
-    loop_holds
+    loop-holds
     later-column-requires
     add-k-2
     loop-less

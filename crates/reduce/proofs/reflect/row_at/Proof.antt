@@ -14,14 +14,14 @@ within c = column_fits c.args.k (suc c.args.n) c.args.m (omega arith)
 small : (c : tie.Start) → suc c.args.n * c.args.m ≤ 17 * 128
 small c = let h : suc c.args.n ≤ 17 = omega arith in mul-le-mul h c.requires.0
 
-mul_result : tie.Need-overflow-mul-result
-mul_result c = omega (arith, within c, small c)
+mul-result : tie.Need-overflow-mul-result
+mul-result c = omega (arith, within c, small c)
 
-add_result : tie.Need-overflow-add-result
-add_result c = omega (arith, within c, small c)
+add-result : tie.Need-overflow-add-result
+add-result c = omega (arith, within c, small c)
 
 returns : tie.Need-returns
 returns c = (refl, omega (arith, within c))
 
 pub row-at-spec : {M : Type 1} → statement M
-row-at-spec = tie.close (tie.spec mul_result add_result returns)
+row-at-spec = tie.close (tie.spec mul-result add-result returns)

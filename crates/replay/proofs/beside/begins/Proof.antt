@@ -12,8 +12,8 @@ decreases-loop a b i₀ i = length a - i
 returns : tie.Need-returns invariant-loop decreases-loop
 returns c = search rules
 
-loop_holds : tie.Need-loop-init invariant-loop decreases-loop
-loop_holds c = search rules
+loop-holds : tie.Need-loop-init invariant-loop decreases-loop
+loop-holds c = search rules
 
 mul-bits-of : tie.Need-overflow-mul-bits-of invariant-loop decreases-loop
 mul-bits-of c = search rules
@@ -55,7 +55,7 @@ begins-spec =
     invariant-loop
     decreases-loop
     returns
-    loop_holds
+    loop-holds
     mul-bits-of
     shared-slice-read-bits-of
     bits-of-requires

@@ -12,8 +12,8 @@ decreases-loop v room₀ i₀ room i = length v - i
 returns : tie.Need-returns invariant-loop decreases-loop
 returns c = search rules
 
-loop_holds : tie.Need-loop-init invariant-loop decreases-loop
-loop_holds c = search rules
+loop-holds : tie.Need-loop-init invariant-loop decreases-loop
+loop-holds c = search rules
 
 mul-room : tie.Need-overflow-mul-room invariant-loop decreases-loop
 mul-room c = search rules
@@ -49,7 +49,7 @@ copied-spec =
     invariant-loop
     decreases-loop
     returns
-    loop_holds
+    loop-holds
     mul-room
     shared-slice-read-room
     mul-room-2

@@ -12,8 +12,8 @@ decreases-loop line₀ text₀ p₀ turns₀ line text p turns = turns
 nothing-requires : tie.Need-nothing-requires invariant-loop decreases-loop
 nothing-requires c κs = search rules
 
-loop_holds : tie.Need-loop-init invariant-loop decreases-loop
-loop_holds c = search rules
+loop-holds : tie.Need-loop-init invariant-loop decreases-loop
+loop-holds c = search rules
 
 same_length : tie.Need-same-length invariant-loop decreases-loop
 same_length c = search rules
@@ -52,7 +52,7 @@ all-spec =
     invariant-loop
     decreases-loop
     nothing-requires
-    loop_holds
+    loop-holds
     same_length
     same-length-2
     returns

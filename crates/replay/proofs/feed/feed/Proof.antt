@@ -9,8 +9,8 @@ invariant-loop chunk line₀ text₀ q₀ i₀ line text q i = (length line ≡ 
 abbrev decreases-loop : tie.decreases-loop
 decreases-loop chunk line₀ text₀ q₀ i₀ line text q i = length chunk - i
 
-loop_holds : tie.Need-loop-init invariant-loop decreases-loop
-loop_holds c = search rules
+loop-holds : tie.Need-loop-init invariant-loop decreases-loop
+loop-holds c = search rules
 
 same_length : tie.Need-same-length invariant-loop decreases-loop
 same_length c = search rules
@@ -48,7 +48,7 @@ feed-spec =
     (tie.spec
     invariant-loop
     decreases-loop
-    loop_holds
+    loop-holds
     same_length
     same-length-2
     returns

@@ -9,8 +9,8 @@ invariant-loop room₀ len counter c₀ i₀ room c i = length room ≡ length r
 abbrev decreases-loop : tie.decreases-loop
 decreases-loop room₀ len counter c₀ i₀ room c i = len - i
 
-loop_holds : tie.Need-loop-init invariant-loop decreases-loop
-loop_holds c = search rules
+loop-holds : tie.Need-loop-init invariant-loop decreases-loop
+loop-holds c = search rules
 
 same_length : tie.Need-same-length invariant-loop decreases-loop
 same_length c = search rules
@@ -48,7 +48,7 @@ places-spec =
     (tie.spec
     invariant-loop
     decreases-loop
-    loop_holds
+    loop-holds
     same_length
     returns
     next-requires

@@ -9,8 +9,8 @@ invariant-loop v text₀ at k₀ i₀ text k i = length text ≡ length text₀
 abbrev decreases-loop : tie.decreases-loop
 decreases-loop v text₀ at k₀ i₀ text k i = length v - i
 
-loop_holds : tie.Need-loop-init invariant-loop decreases-loop
-loop_holds c = refl
+loop-holds : tie.Need-loop-init invariant-loop decreases-loop
+loop-holds c = refl
 
 mul-number : tie.Need-overflow-mul-number invariant-loop decreases-loop
 mul-number c = search rules
@@ -42,7 +42,7 @@ numbers-spec =
     (tie.spec
     invariant-loop
     decreases-loop
-    loop_holds
+    loop-holds
     mul-number
     shared-slice-read-number
     number-requires

@@ -10,7 +10,7 @@ use Rattle.search.specs.Bounds.{lower_bound_of}
 use Rattle.search.specs.Search.{problem_of, concluded}
 use Rattle.search.specs.inner.Read.{unanswered}
 use Rattle.search.proofs.Seeing.{saw_same}
-use Rattle.search.proofs.trials.Bounding.{lower-asked, gnorm-asked, no_lower, no_gnorm, to_trials, first_is, asked-trials, lower-seen, gradient-seen, seen_first}
+use Rattle.search.proofs.trials.Bounding.{lower-asked, gnorm-asked, no_lower_lem, no_gnorm, to_trials, first_is, asked-trials, lower-seen, gradient-seen, seen_first}
 use Rattle.search.proofs.trials.bounded.Statement.{statement}
 use Rattle.search.proofs.trials.bounded.Tie as tie
 
@@ -38,7 +38,7 @@ returns c =
     let nrm = g.requires.1.1.0 ∙ ap norm g.requires.1.1.1 in
     let l = lower-asked g.args.st g.args.store.now g.args.order.now g.requires.0 g.args.diag.now g.requires.1.0.0 g.args.radius _ _ step g.args.v.now g.requires.1.1.0 g.requires.1.1.1 low.ensures.0
     ∙ ap (λ (x : Float). lower_bound_of asked step (sub binary64 x g.args.radius)) nrm in
-    (no_lower asked g.args.lambda step unanswered l (sym c.before.is_finite.ensures ∙ not-true _ c.if1.true), (refl, tt))
+    (no_lower_lem asked g.args.lambda step unanswered l (sym c.before.is_finite.ensures ∙ not-true _ c.if1.true), (refl, tt))
 
 gradient-norm-requires : tie.Need-gradient-norm-requires
 gradient-norm-requires c κs =

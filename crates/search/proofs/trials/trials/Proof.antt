@@ -103,8 +103,8 @@ all₂ : (c : tie.After-either invariant-loop decreases-loop) (r : Run) {all : R
     → either (at₁ (at₂ c)).loop.s.seen (ranges_of (measured_trials (problem (at₁ (at₂ c))) r)) ≡ all → c.either.result ≡ all
 all₂ c r m h = c.either.ensures ∙ seen_last (at₁ (at₂ c)).loop.s.seen _ _ (seen₁ (at₂ c)) m h
 
-loop_holds : tie.Need-loop-init invariant-loop decreases-loop
-loop_holds c = (omega arith, refl, refl, refl, refl, (refl, refl))
+loop-holds : tie.Need-loop-init invariant-loop decreases-loop
+loop-holds c = (omega arith, refl, refl, refl, refl, (refl, refl))
 
 raised-of-requires : tie.Need-raised-of-requires invariant-loop decreases-loop
 raised-of-requires c κs = search rules
@@ -291,7 +291,7 @@ returns-6 c =
 pub trials-spec : {M : Type 1} → statement M
 trials-spec =
     tie.close (tie.spec
-    invariant-loop decreases-loop loop_holds raised-of-requires is-finite-requires damped-requires is-finite-requires-2 either-requires add-t told-requires
+    invariant-loop decreases-loop loop-holds raised-of-requires is-finite-requires damped-requires is-finite-requires-2 either-requires add-t told-requires
     is-within-requires told-requires-2 is-falling-requires told-requires-3 correction-requires is-finite-requires-3 next-of-requires loop-less
     loop-again same_length same-length-2 same-length-3 returns same-length-4 same-length-5 same-length-6 returns-2 same-length-7 same-length-8
     same-length-9 returns-3 same-length-10 same-length-11 same-length-12 returns-4 same-length-13 same-length-14 same-length-15 returns-5

@@ -17,8 +17,8 @@ invariant-loop w₀ order diag i₀ w i = (i ≤ length w₀) × (length w ≡ l
 abbrev decreases-loop : tie.decreases-loop
 decreases-loop w₀ order diag i₀ w i = length w₀ - i
 
-loop_holds : tie.Need-loop-init invariant-loop decreases-loop
-loop_holds c = (search rules, refl, refl)
+loop-holds : tie.Need-loop-init invariant-loop decreases-loop
+loop-holds c = (search rules, refl, refl)
 
 mul-o : tie.Need-overflow-mul-o invariant-loop decreases-loop
 mul-o c = search rules
@@ -87,7 +87,7 @@ divide-by-spec =
     (tie.spec
     invariant-loop
     decreases-loop
-    loop_holds
+    loop-holds
     mul-o
     shared-slice-read-o
     mul-w

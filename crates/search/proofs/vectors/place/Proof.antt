@@ -16,8 +16,8 @@ invariant-loop order w out₀ k₀ out k = (k ≤ length w) × (length out ≡ l
 abbrev decreases-loop : tie.decreases-loop
 decreases-loop order w out₀ k₀ out k = length w - k
 
-loop_holds : tie.Need-loop-init invariant-loop decreases-loop
-loop_holds c = (search rules, refl, refl)
+loop-holds : tie.Need-loop-init invariant-loop decreases-loop
+loop-holds c = (search rules, refl, refl)
 
 mul-o : tie.Need-overflow-mul-o invariant-loop decreases-loop
 mul-o c = search rules
@@ -71,7 +71,7 @@ place-spec =
     (tie.spec
     invariant-loop
     decreases-loop
-    loop_holds
+    loop-holds
     mul-o
     shared-slice-read-o
     mul-out

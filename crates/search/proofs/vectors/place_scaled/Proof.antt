@@ -19,8 +19,8 @@ invariant-loop order w diag v₀ k₀ v k = (k ≤ length w) × (length v ≡ le
 abbrev decreases-loop : tie.decreases-loop
 decreases-loop order w diag v₀ k₀ v k = length w - k
 
-loop_holds : tie.Need-loop-init invariant-loop decreases-loop
-loop_holds c = (search rules, refl, refl)
+loop-holds : tie.Need-loop-init invariant-loop decreases-loop
+loop-holds c = (search rules, refl, refl)
 
 mul-o : tie.Need-overflow-mul-o invariant-loop decreases-loop
 mul-o c = search rules
@@ -83,7 +83,7 @@ place-scaled-spec =
     (tie.spec
     invariant-loop
     decreases-loop
-    loop_holds
+    loop-holds
     mul-o
     shared-slice-read-o
     mul-v

@@ -19,8 +19,8 @@ invariant-loop a order x w₀ k₀ w k = (k ≤ length w₀) × (length w ≡ le
 abbrev decreases-loop : tie.decreases-loop
 decreases-loop a order x w₀ k₀ w k = length w₀ - k
 
-loop_holds : tie.Need-loop-init invariant-loop decreases-loop
-loop_holds c = (search rules, refl, refl)
+loop-holds : tie.Need-loop-init invariant-loop decreases-loop
+loop-holds c = (search rules, refl, refl)
 
 mul-o : tie.Need-overflow-mul-o invariant-loop decreases-loop
 mul-o c = search rules
@@ -88,7 +88,7 @@ scale-by-spec =
     (tie.spec
     invariant-loop
     decreases-loop
-    loop_holds
+    loop-holds
     mul-o
     shared-slice-read-o
     mul-w

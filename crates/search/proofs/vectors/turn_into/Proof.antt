@@ -19,8 +19,8 @@ invariant-loop v norm order diag w₀ k₀ w k = (k ≤ length w₀) × (length 
 abbrev decreases-loop : tie.decreases-loop
 decreases-loop v norm order diag w₀ k₀ w k = length w₀ - k
 
-loop_holds : tie.Need-loop-init invariant-loop decreases-loop
-loop_holds c = (search rules, refl, refl)
+loop-holds : tie.Need-loop-init invariant-loop decreases-loop
+loop-holds c = (search rules, refl, refl)
 
 mul-o : tie.Need-overflow-mul-o invariant-loop decreases-loop
 mul-o c = search rules
@@ -104,7 +104,7 @@ turn-into-spec =
     (tie.spec
     invariant-loop
     decreases-loop
-    loop_holds
+    loop-holds
     mul-o
     shared-slice-read-o
     mul-w

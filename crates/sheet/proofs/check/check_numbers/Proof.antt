@@ -1,6 +1,6 @@
 -- `sheet::check::check_numbers` meets its contract. Assumes nothing.
 use native.Mathlib.Omega.{arith}
-use Rattle.sheet.proofs.Testing.{rest_in, whole, rest_long, numbers-bad, numbers_good}
+use Rattle.sheet.proofs.Testing.{rest_in_lem, whole, rest_long, numbers-bad, numbers_good}
 use borrow.Author.Rules.{part_to_end}
 use borrow.Author.Rules.{rules}
 use Rattle.sheet.proofs.check.check_numbers.Statement.{statement}
@@ -13,13 +13,13 @@ returns : tie.Need-returns
 returns c = let g = c.before.before.before in numbers-bad g.args.h g.args.xs.now g.requires.0 g.requires.1 c.before.all-finite.ensures c.if1.true
 
 mul-a : tie.Need-overflow-mul-a
-mul-a c = let g = c.before.before.before in omega (arith, rest_in g.args.h g.args.xs.now g.requires.0 g.requires.1)
+mul-a c = let g = c.before.before.before in omega (arith, rest_in_lem g.args.h g.args.xs.now g.requires.0 g.requires.1)
 
 add_a : tie.Need-overflow-add-a
-add_a c = let g = c.before.before.before in omega (arith, rest_in g.args.h g.args.xs.now g.requires.0 g.requires.1)
+add_a c = let g = c.before.before.before in omega (arith, rest_in_lem g.args.h g.args.xs.now g.requires.0 g.requires.1)
 
 mul-check-task : tie.Need-overflow-mul-check-task
-mul-check-task c = let g = c.before.before.before in omega (arith, rest_in g.args.h g.args.xs.now g.requires.0 g.requires.1)
+mul-check-task c = let g = c.before.before.before in omega (arith, rest_in_lem g.args.h g.args.xs.now g.requires.0 g.requires.1)
 
 sub-check-task : tie.Need-overflow-sub-check-task
 sub-check-task c = let g = c.before.before.before in omega (arith, whole g.args.h g.args.xs.now g.requires.0 g.requires.1)

@@ -6,11 +6,11 @@ use Rattle.sheet.specs.Sheet.{count_of}
 use Rattle.sheet.proofs.check.count_of.Statement.{statement}
 use Rattle.sheet.proofs.check.count_of.Tie as tie
 
-mul_result : tie.Need-overflow-mul-result
-mul_result c = let i = inside _ _ c.before.requires in omega (arith, jacobian_small i, i.rows_few, i.cols_few)
+mul-result : tie.Need-overflow-mul-result
+mul-result c = let i = inside _ _ c.before.requires in omega (arith, jacobian_small i, i.rows_few, i.cols_few)
 
-add_result : tie.Need-overflow-add-result
-add_result c = let i = inside _ _ c.before.requires in omega (arith, jacobian_small i, i.rows_few, i.cols_few)
+add-result : tie.Need-overflow-add-result
+add-result c = let i = inside _ _ c.before.requires in omega (arith, jacobian_small i, i.rows_few, i.cols_few)
 
 add-result-2 : tie.Need-overflow-add-result-2
 add-result-2 c = let i = inside _ _ c.before.requires in omega (arith, jacobian_small i, i.rows_few, i.cols_few)
@@ -42,8 +42,8 @@ pub count-of-spec : {M : Type 1} → statement M
 count-of-spec =
     tie.close
     (tie.spec
-    mul_result
-    add_result
+    mul-result
+    add-result
     add-result-2
     add-result-3
     returns

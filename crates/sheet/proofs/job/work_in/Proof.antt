@@ -1,7 +1,7 @@
 -- `sheet::job::work_in` meets its contract. Assumes nothing.
 use native.Mathlib.Omega.{arith}
 use mathlib.Core.Path.{sym}
-use Rattle.sheet.proofs.Testing.{rest_in, whole, rest_long}
+use Rattle.sheet.proofs.Testing.{rest_in_lem, whole, rest_long}
 use Rattle.sheet.proofs.job.Jobs.{work_on, work-refused}
 use lib.Seq.{length-take-le}
 use borrow.Author.Rules.{part_to_end}
@@ -10,16 +10,16 @@ use Rattle.sheet.proofs.job.work_in.Statement.{statement}
 use Rattle.sheet.proofs.job.work_in.Tie as tie
 
 mul-a : tie.Need-overflow-mul-a
-mul-a c = omega (arith, rest_in c.before.before.before.before.before.args.h c.before.before.before.before.before.args.xs.now c.before.before.before.before.before.requires.0 c.before.before.before.before.before.requires.1, whole c.before.before.before.before.before.args.h c.before.before.before.before.before.args.xs.now c.before.before.before.before.before.requires.0 c.before.before.before.before.before.requires.1)
+mul-a c = omega (arith, rest_in_lem c.before.before.before.before.before.args.h c.before.before.before.before.before.args.xs.now c.before.before.before.before.before.requires.0 c.before.before.before.before.before.requires.1, whole c.before.before.before.before.before.args.h c.before.before.before.before.before.args.xs.now c.before.before.before.before.before.requires.0 c.before.before.before.before.before.requires.1)
 
 add-e : tie.Need-overflow-add-e
-add-e c = omega (arith, rest_in c.before.before.before.before.before.args.h c.before.before.before.before.before.args.xs.now c.before.before.before.before.before.requires.0 c.before.before.before.before.before.requires.1, whole c.before.before.before.before.before.args.h c.before.before.before.before.before.args.xs.now c.before.before.before.before.before.requires.0 c.before.before.before.before.before.requires.1)
+add-e c = omega (arith, rest_in_lem c.before.before.before.before.before.args.h c.before.before.before.before.before.args.xs.now c.before.before.before.before.before.requires.0 c.before.before.before.before.before.requires.1, whole c.before.before.before.before.before.args.h c.before.before.before.before.before.args.xs.now c.before.before.before.before.before.requires.0 c.before.before.before.before.before.requires.1)
 
 slice-aggregate-pivoted-qr : tie.Need-slice-aggregate-pivoted-qr
 slice-aggregate-pivoted-qr c = sym (length-take-le _ c.before.before.before.before.before.before.args.xs.now (omega (arith, whole c.before.before.before.before.before.before.args.h c.before.before.before.before.before.before.args.xs.now c.before.before.before.before.before.before.requires.0 c.before.before.before.before.before.before.requires.1)))
 
 mul-pivoted-qr : tie.Need-overflow-mul-pivoted-qr
-mul-pivoted-qr c = omega (arith, rest_in c.before.before.before.before.before.before.args.h c.before.before.before.before.before.before.args.xs.now c.before.before.before.before.before.before.requires.0 c.before.before.before.before.before.before.requires.1, whole c.before.before.before.before.before.before.args.h c.before.before.before.before.before.before.args.xs.now c.before.before.before.before.before.before.requires.0 c.before.before.before.before.before.before.requires.1)
+mul-pivoted-qr c = omega (arith, rest_in_lem c.before.before.before.before.before.before.args.h c.before.before.before.before.before.before.args.xs.now c.before.before.before.before.before.before.requires.0 c.before.before.before.before.before.before.requires.1, whole c.before.before.before.before.before.before.args.h c.before.before.before.before.before.before.args.xs.now c.before.before.before.before.before.before.requires.0 c.before.before.before.before.before.before.requires.1)
 
 sub-pivoted-qr : tie.Need-overflow-sub-pivoted-qr
 sub-pivoted-qr c = search rules
@@ -28,7 +28,7 @@ part-pivoted-qr-start : tie.Need-slice-bounds-pivoted-qr-start
 part-pivoted-qr-start c = search rules
 
 part-pivoted-qr-end : tie.Need-slice-bounds-pivoted-qr-end
-part-pivoted-qr-end c = omega (arith, rest_in c.before.before.before.before.before.before.args.h c.before.before.before.before.before.before.args.xs.now c.before.before.before.before.before.before.requires.0 c.before.before.before.before.before.before.requires.1, whole c.before.before.before.before.before.before.args.h c.before.before.before.before.before.before.args.xs.now c.before.before.before.before.before.before.requires.0 c.before.before.before.before.before.before.requires.1)
+part-pivoted-qr-end c = omega (arith, rest_in_lem c.before.before.before.before.before.before.args.h c.before.before.before.before.before.before.args.xs.now c.before.before.before.before.before.before.requires.0 c.before.before.before.before.before.before.requires.1, whole c.before.before.before.before.before.before.args.h c.before.before.before.before.before.before.args.xs.now c.before.before.before.before.before.before.requires.0 c.before.before.before.before.before.before.requires.1)
 
 pivoted-qr-requires : tie.Need-pivoted-qr-requires
 pivoted-qr-requires c κs = search rules
@@ -37,13 +37,13 @@ enum_told : tie.Need-enum-told
 enum_told c = search rules
 
 mul-task : tie.Need-overflow-mul-task
-mul-task c = omega (arith, rest_in c.before.before.before.before.before.before.before.before.before.before.before.before.before.before.before.before.before.before.before.before.args.h c.before.before.before.before.before.before.before.before.before.before.before.before.before.before.before.before.before.before.before.before.args.xs.now c.before.before.before.before.before.before.before.before.before.before.before.before.before.before.before.before.before.before.before.before.requires.0 c.before.before.before.before.before.before.before.before.before.before.before.before.before.before.before.before.before.before.before.before.requires.1, whole c.before.before.before.before.before.before.before.before.before.before.before.before.before.before.before.before.before.before.before.before.args.h c.before.before.before.before.before.before.before.before.before.before.before.before.before.before.before.before.before.before.before.before.args.xs.now c.before.before.before.before.before.before.before.before.before.before.before.before.before.before.before.before.before.before.before.before.requires.0 c.before.before.before.before.before.before.before.before.before.before.before.before.before.before.before.before.before.before.before.before.requires.1)
+mul-task c = omega (arith, rest_in_lem c.before.before.before.before.before.before.before.before.before.before.before.before.before.before.before.before.before.before.before.before.args.h c.before.before.before.before.before.before.before.before.before.before.before.before.before.before.before.before.before.before.before.before.args.xs.now c.before.before.before.before.before.before.before.before.before.before.before.before.before.before.before.before.before.before.before.before.requires.0 c.before.before.before.before.before.before.before.before.before.before.before.before.before.before.before.before.before.before.before.before.requires.1, whole c.before.before.before.before.before.before.before.before.before.before.before.before.before.before.before.before.before.before.before.before.args.h c.before.before.before.before.before.before.before.before.before.before.before.before.before.before.before.before.before.before.before.before.args.xs.now c.before.before.before.before.before.before.before.before.before.before.before.before.before.before.before.before.before.before.before.before.requires.0 c.before.before.before.before.before.before.before.before.before.before.before.before.before.before.before.before.before.before.before.before.requires.1)
 
 sub-task : tie.Need-overflow-sub-task
-sub-task c = omega (arith, rest_in c.before.before.before.before.before.before.before.before.before.before.before.before.before.before.before.before.before.before.before.before.args.h c.before.before.before.before.before.before.before.before.before.before.before.before.before.before.before.before.before.before.before.before.args.xs.now c.before.before.before.before.before.before.before.before.before.before.before.before.before.before.before.before.before.before.before.before.requires.0 c.before.before.before.before.before.before.before.before.before.before.before.before.before.before.before.before.before.before.before.before.requires.1, whole c.before.before.before.before.before.before.before.before.before.before.before.before.before.before.before.before.before.before.before.before.args.h c.before.before.before.before.before.before.before.before.before.before.before.before.before.before.before.before.before.before.before.before.args.xs.now c.before.before.before.before.before.before.before.before.before.before.before.before.before.before.before.before.before.before.before.before.requires.0 c.before.before.before.before.before.before.before.before.before.before.before.before.before.before.before.before.before.before.before.before.requires.1)
+sub-task c = omega (arith, rest_in_lem c.before.before.before.before.before.before.before.before.before.before.before.before.before.before.before.before.before.before.before.before.args.h c.before.before.before.before.before.before.before.before.before.before.before.before.before.before.before.before.before.before.before.before.args.xs.now c.before.before.before.before.before.before.before.before.before.before.before.before.before.before.before.before.before.before.before.before.requires.0 c.before.before.before.before.before.before.before.before.before.before.before.before.before.before.before.before.before.before.before.before.requires.1, whole c.before.before.before.before.before.before.before.before.before.before.before.before.before.before.before.before.before.before.before.before.args.h c.before.before.before.before.before.before.before.before.before.before.before.before.before.before.before.before.before.before.before.before.args.xs.now c.before.before.before.before.before.before.before.before.before.before.before.before.before.before.before.before.before.before.before.before.requires.0 c.before.before.before.before.before.before.before.before.before.before.before.before.before.before.before.before.before.before.before.before.requires.1)
 
 part-task-start : tie.Need-slice-bounds-task-start
-part-task-start c = omega (arith, rest_in c.before.before.before.before.before.before.before.before.before.before.before.before.before.before.before.before.before.before.before.before.args.h c.before.before.before.before.before.before.before.before.before.before.before.before.before.before.before.before.before.before.before.before.args.xs.now c.before.before.before.before.before.before.before.before.before.before.before.before.before.before.before.before.before.before.before.before.requires.0 c.before.before.before.before.before.before.before.before.before.before.before.before.before.before.before.before.before.before.before.before.requires.1, whole c.before.before.before.before.before.before.before.before.before.before.before.before.before.before.before.before.before.before.before.before.args.h c.before.before.before.before.before.before.before.before.before.before.before.before.before.before.before.before.before.before.before.before.args.xs.now c.before.before.before.before.before.before.before.before.before.before.before.before.before.before.before.before.before.before.before.before.requires.0 c.before.before.before.before.before.before.before.before.before.before.before.before.before.before.before.before.before.before.before.before.requires.1)
+part-task-start c = omega (arith, rest_in_lem c.before.before.before.before.before.before.before.before.before.before.before.before.before.before.before.before.before.before.before.before.args.h c.before.before.before.before.before.before.before.before.before.before.before.before.before.before.before.before.before.before.before.before.args.xs.now c.before.before.before.before.before.before.before.before.before.before.before.before.before.before.before.before.before.before.before.before.requires.0 c.before.before.before.before.before.before.before.before.before.before.before.before.before.before.before.before.before.before.before.before.requires.1, whole c.before.before.before.before.before.before.before.before.before.before.before.before.before.before.before.before.before.before.before.before.args.h c.before.before.before.before.before.before.before.before.before.before.before.before.before.before.before.before.before.before.before.before.args.xs.now c.before.before.before.before.before.before.before.before.before.before.before.before.before.before.before.before.before.before.before.before.requires.0 c.before.before.before.before.before.before.before.before.before.before.before.before.before.before.before.before.before.before.before.before.requires.1)
 
 part-task-end : tie.Need-slice-bounds-task-end
 part-task-end c = search rules

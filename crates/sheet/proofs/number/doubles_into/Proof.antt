@@ -14,8 +14,8 @@ invariant-loop s out₀ i₀ out i = (i ≤ length out₀) × (length out ≡ le
 abbrev decreases-loop : tie.decreases-loop
 decreases-loop s out₀ i₀ out i = length out₀ - i
 
-loop_holds : tie.Need-loop-init invariant-loop decreases-loop
-loop_holds c = (search rules, refl, refl)
+loop-holds : tie.Need-loop-init invariant-loop decreases-loop
+loop-holds c = (search rules, refl, refl)
 
 mul-word-at : tie.Need-overflow-mul-word-at invariant-loop decreases-loop
 mul-word-at c = search rules
@@ -66,7 +66,7 @@ doubles-into-spec =
     (tie.spec
     invariant-loop
     decreases-loop
-    loop_holds
+    loop-holds
     mul-word-at
     add-word-at
     word-at-requires

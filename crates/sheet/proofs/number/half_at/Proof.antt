@@ -11,8 +11,8 @@ shared-slice-read-wide c = search rules
 wide-requires : tie.Need-wide-requires
 wide-requires c κs = search rules
 
-mul_result : tie.Need-overflow-mul-result
-mul_result c = search rules
+mul-result : tie.Need-overflow-mul-result
+mul-result c = search rules
 
 add_wide : tie.Need-overflow-add-wide
 add_wide c = search rules
@@ -26,8 +26,8 @@ wide-requires-2 c κs = search rules
 mul-result-2 : tie.Need-overflow-mul-result-2
 mul-result-2 c = search rules
 
-add_result : tie.Need-overflow-add-result
-add_result c = search rules
+add-result : tie.Need-overflow-add-result
+add-result c = search rules
 
 add-wide-2 : tie.Need-overflow-add-wide-2
 add-wide-2 c = search rules
@@ -71,12 +71,12 @@ half-at-spec =
     (tie.spec
     shared-slice-read-wide
     wide-requires
-    mul_result
+    mul-result
     add_wide
     shared-slice-read-wide-2
     wide-requires-2
     mul-result-2
-    add_result
+    add-result
     add-wide-2
     shared-slice-read-wide-3
     wide-requires-3

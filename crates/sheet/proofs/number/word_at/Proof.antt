@@ -13,11 +13,11 @@ add-half-at c = search rules
 half-at-requires-2 : tie.Need-half-at-requires-2
 half-at-requires-2 c κs = search rules
 
-mul_result : tie.Need-overflow-mul-result
-mul_result c = search rules
+mul-result : tie.Need-overflow-mul-result
+mul-result c = search rules
 
-add_result : tie.Need-overflow-add-result
-add_result c = search rules
+add-result : tie.Need-overflow-add-result
+add-result c = search rules
 
 returns : tie.Need-returns
 returns c =
@@ -27,4 +27,4 @@ returns c =
 pub word-at-spec : {M : Type 1} → statement M
 word-at-spec =
     tie.close
-    (tie.spec half-at-requires add-half-at half-at-requires-2 mul_result add_result returns)
+    (tie.spec half-at-requires add-half-at half-at-requires-2 mul-result add-result returns)

@@ -16,8 +16,8 @@ invariant-loop step out₀ at p₀ i₀ out p i = (i ≤ length step) × (length
 abbrev decreases-loop : tie.decreases-loop
 decreases-loop step out₀ at p₀ i₀ out p i = length step - i
 
-loop_holds : tie.Need-loop-init invariant-loop decreases-loop
-loop_holds c = (search rules, refl, omega arith, refl)
+loop-holds : tie.Need-loop-init invariant-loop decreases-loop
+loop-holds c = (search rules, refl, omega arith, refl)
 
 mul-step-line : tie.Need-overflow-mul-step-line invariant-loop decreases-loop
 mul-step-line c = search rules
@@ -57,7 +57,7 @@ step-lines-spec =
     (tie.spec
     invariant-loop
     decreases-loop
-    loop_holds
+    loop-holds
     mul-step-line
     shared-slice-read-step-line
     step-line-requires

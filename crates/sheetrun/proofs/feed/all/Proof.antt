@@ -11,8 +11,8 @@ invariant-loop line₀ text₀ p₀ turns₀ line text p turns = (length line �
 abbrev decreases-loop : tie.decreases-loop
 decreases-loop line₀ text₀ p₀ turns₀ line text p turns = turns
 
-loop_holds : tie.Need-loop-init invariant-loop decreases-loop
-loop_holds c = search rules
+loop-holds : tie.Need-loop-init invariant-loop decreases-loop
+loop-holds c = search rules
 
 same_length : tie.Need-same-length invariant-loop decreases-loop
 same_length c = search rules
@@ -50,7 +50,7 @@ all-spec =
     (tie.spec
     invariant-loop
     decreases-loop
-    loop_holds
+    loop-holds
     same_length
     same-length-2
     returns

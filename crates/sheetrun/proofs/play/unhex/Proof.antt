@@ -18,8 +18,8 @@ returns c = search rules
 returns-2 : tie.Need-returns-2 invariant-loop decreases-loop
 returns-2 c = search rules
 
-loop_holds : tie.Need-loop-init invariant-loop decreases-loop
-loop_holds c = search rules
+loop-holds : tie.Need-loop-init invariant-loop decreases-loop
+loop-holds c = search rules
 
 mul-byte-of : tie.Need-overflow-mul-byte-of invariant-loop decreases-loop
 mul-byte-of c = search rules
@@ -77,7 +77,7 @@ unhex-spec =
     decreases-loop
     returns
     returns-2
-    loop_holds
+    loop-holds
     mul-byte-of
     shared-slice-read-byte-of
     mul-byte-of-2

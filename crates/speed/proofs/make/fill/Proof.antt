@@ -9,8 +9,8 @@ invariant-loop room₀ seed s₀ i₀ room s i = length room ≡ length room₀
 abbrev decreases-loop : tie.decreases-loop
 decreases-loop room₀ seed s₀ i₀ room s i = length room₀ - i
 
-loop_holds : tie.Need-loop-init invariant-loop decreases-loop
-loop_holds c = search rules
+loop-holds : tie.Need-loop-init invariant-loop decreases-loop
+loop-holds c = search rules
 
 next-requires : tie.Need-next-requires invariant-loop decreases-loop
 next-requires c κs = search rules
@@ -45,7 +45,7 @@ fill_spec =
     (tie.spec
     invariant-loop
     decreases-loop
-    loop_holds
+    loop-holds
     next-requires
     value-of-requires
     mul-room

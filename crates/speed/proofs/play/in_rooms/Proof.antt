@@ -11,8 +11,8 @@ abbrev decreases-loop : tie.decreases-loop
 decreases-loop t calls jacobian₀ residuals₀ store₀ order₀ bench₀ diag₀ step₀ z₀ c₀ jacobian residuals store order bench diag step z c =
     calls - c
 
-loop_holds : tie.Need-loop-init invariant-loop decreases-loop
-loop_holds c = search rules
+loop-holds : tie.Need-loop-init invariant-loop decreases-loop
+loop-holds c = search rules
 
 one-requires : tie.Need-one-requires invariant-loop decreases-loop
 one-requires c κs = search rules
@@ -56,7 +56,7 @@ in-rooms-spec =
     (tie.spec
     invariant-loop
     decreases-loop
-    loop_holds
+    loop-holds
     one-requires
     add-c
     loop-less

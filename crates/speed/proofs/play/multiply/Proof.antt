@@ -9,8 +9,8 @@ invariant-loop v₀ diag i₀ v i = length v ≡ length v₀
 abbrev decreases-loop : tie.decreases-loop
 decreases-loop v₀ diag i₀ v i = length v₀ - i
 
-loop_holds : tie.Need-loop-init invariant-loop decreases-loop
-loop_holds c = search rules
+loop-holds : tie.Need-loop-init invariant-loop decreases-loop
+loop-holds c = search rules
 
 mul-v : tie.Need-overflow-mul-v invariant-loop decreases-loop
 mul-v c = search rules
@@ -48,7 +48,7 @@ multiply-spec =
     (tie.spec
     invariant-loop
     decreases-loop
-    loop_holds
+    loop-holds
     mul-v
     slice-read-v
     at-requires

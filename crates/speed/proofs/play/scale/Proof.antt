@@ -15,8 +15,8 @@ product-requires c κs = search rules
 wrapping-add-usize-requires : tie.Need-wrapping-add-usize-requires invariant-loop decreases-loop
 wrapping-add-usize-requires c κs = search rules
 
-loop_holds : tie.Need-loop-init invariant-loop decreases-loop
-loop_holds c = search rules
+loop-holds : tie.Need-loop-init invariant-loop decreases-loop
+loop-holds c = search rules
 
 wrapping-add-usize-requires-2 : tie.Need-wrapping-add-usize-requires-2 invariant-loop decreases-loop
 wrapping-add-usize-requires-2 c κs = search rules
@@ -56,7 +56,7 @@ scale-spec =
     decreases-loop
     product-requires
     wrapping-add-usize-requires
-    loop_holds
+    loop-holds
     wrapping-add-usize-requires-2
     at-requires
     entry-of-requires

@@ -8,8 +8,8 @@ use Rattle.text.proofs.digit.capital.Tie as tie
 cast-result : tie.Need-overflow-cast-result
 cast-result c = search rules
 
-add_result : tie.Need-overflow-add-result
-add_result c = search rules
+add-result : tie.Need-overflow-add-result
+add-result c = search rules
 
 cast-result-2 : tie.Need-overflow-cast-result-2
 cast-result-2 c = search rules
@@ -27,4 +27,4 @@ returns-2 c = rw (le-ltb _ _ c.if1.false, glyph)
 
 pub capital-spec : {M : Type 1} → statement M
 capital-spec =
-    tie.close (tie.spec cast-result add_result cast-result-2 add-result-2 returns returns-2)
+    tie.close (tie.spec cast-result add-result cast-result-2 add-result-2 returns returns-2)

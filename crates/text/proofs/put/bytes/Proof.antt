@@ -18,8 +18,8 @@ returns-2 c = full _ _ _ _ refl (omega arith)
 copy-requires : tie.Need-copy-requires
 copy-requires c κs = search rules
 
-add_result : tie.Need-overflow-add-result
-add_result c = search rules
+add-result : tie.Need-overflow-add-result
+add-result c = search rules
 
 same_length : tie.Need-same-length
 same_length c = search rules
@@ -29,4 +29,4 @@ returns-3 c = fits_as _ _ _ _ _ refl (omega arith) c.before.before.copy.ensures
 
 pub bytes-spec : {M : Type 1} → statement M
 bytes-spec =
-    tie.close (tie.spec returns sub-if2 returns-2 copy-requires add_result same_length returns-3)
+    tie.close (tie.spec returns sub-if2 returns-2 copy-requires add-result same_length returns-3)

@@ -16,8 +16,8 @@ invariant-loop src out₀ at i₀ out i = (i ≤ length src) × (length out ≡ 
 abbrev decreases-loop : tie.decreases-loop
 decreases-loop src out₀ at i₀ out i = length src - i
 
-loop_holds : tie.Need-loop-init invariant-loop decreases-loop
-loop_holds c = (omega arith, refl, rw add-zero)
+loop-holds : tie.Need-loop-init invariant-loop decreases-loop
+loop-holds c = (omega arith, refl, rw add-zero)
 
 shared-slice-read-out : tie.Need-shared-slice-read-out invariant-loop decreases-loop
 shared-slice-read-out c = search rules
@@ -51,7 +51,7 @@ copy_spec =
     (tie.spec
     invariant-loop
     decreases-loop
-    loop_holds
+    loop-holds
     shared-slice-read-out
     add-out
     slice-write-out

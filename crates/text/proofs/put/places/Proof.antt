@@ -14,9 +14,9 @@ invariant-loop n base rest₀ k₀ rest k = (k ≤ 20) × (places_from (20 - k) 
 abbrev decreases-loop : tie.decreases-loop
 decreases-loop n base rest₀ k₀ rest k = 20 - k
 
-loop_holds : tie.Need-loop-init invariant-loop decreases-loop
+loop-holds : tie.Need-loop-init invariant-loop decreases-loop
 unfolding places_of
-loop_holds c = (omega arith, refl)
+loop-holds c = (omega arith, refl)
 
 returns : tie.Need-returns invariant-loop decreases-loop
 returns c = (places-stop _ _ _ _ c.before.loop-test.true c.if1.true c.before.before.loop.invariant.1, search rules)
@@ -39,4 +39,4 @@ returns-2 c = (places-end _ _ _ _ c.loop-test.false c.before.loop.invariant.1, s
 pub places-spec : {M : Type 1} → statement M
 places-spec =
     tie.close
-    (tie.spec invariant-loop decreases-loop loop_holds returns div-rest add-k loop-less loop-again returns-2)
+    (tie.spec invariant-loop decreases-loop loop-holds returns div-rest add-k loop-less loop-again returns-2)

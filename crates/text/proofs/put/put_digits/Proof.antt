@@ -18,8 +18,8 @@ returns-2 c = full _ _ _ _ (digits-length _ _ _) (omega arith)
 spell-requires : tie.Need-spell-requires
 spell-requires c κs = search rules
 
-add_result : tie.Need-overflow-add-result
-add_result c = search rules
+add-result : tie.Need-overflow-add-result
+add-result c = search rules
 
 same_length : tie.Need-same-length
 same_length c = search rules
@@ -29,4 +29,4 @@ returns-3 c = fits_as _ _ _ _ _ (digits-length _ _ _) (omega arith) (c.before.be
 
 pub put-digits-spec : {M : Type 1} → statement M
 put-digits-spec =
-    tie.close (tie.spec returns sub-if2 returns-2 spell-requires add_result same_length returns-3)
+    tie.close (tie.spec returns sub-if2 returns-2 spell-requires add-result same_length returns-3)

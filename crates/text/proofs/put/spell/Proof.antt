@@ -16,8 +16,8 @@ invariant-loop n base k out₀ at rest₀ i₀ out rest i = (i ≤ k) × (length
 abbrev decreases-loop : tie.decreases-loop
 decreases-loop n base k out₀ at rest₀ i₀ out rest i = i
 
-loop_holds : tie.Need-loop-init invariant-loop decreases-loop
-loop_holds c = (omega arith, refl, refl)
+loop-holds : tie.Need-loop-init invariant-loop decreases-loop
+loop-holds c = (omega arith, refl, refl)
 
 sub-i : tie.Need-overflow-sub-i invariant-loop decreases-loop
 sub-i c = search rules
@@ -57,7 +57,7 @@ spell-spec =
     (tie.spec
     invariant-loop
     decreases-loop
-    loop_holds
+    loop-holds
     sub-i
     rem-capital
     capital-requires

@@ -15,8 +15,8 @@ invariant-loop s at v₀ i₀ v i = read_from at v i (drop i s) ≡ read_from at
 abbrev decreases-loop : tie.decreases-loop
 decreases-loop s at v₀ i₀ v i = length s - i
 
-loop_holds : tie.Need-loop-init invariant-loop decreases-loop
-loop_holds c = refl
+loop-holds : tie.Need-loop-init invariant-loop decreases-loop
+loop-holds c = refl
 
 shared-slice-read-b : tie.Need-shared-slice-read-b invariant-loop decreases-loop
 shared-slice-read-b c = search rules
@@ -72,7 +72,7 @@ number-spec =
     (tie.spec
     invariant-loop
     decreases-loop
-    loop_holds
+    loop-holds
     shared-slice-read-b
     value-requires
     enum-known-d
