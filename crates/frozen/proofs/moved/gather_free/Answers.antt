@@ -1,0 +1,68 @@
+use Prim.Native.Nat.{◌+◌, ◌-◌, ◌<◌}
+use mathlib.Core.Path.{◌≡◌, refl, ◌∙◌}
+use mathlib.Core.Logic.{⊎_elim}
+use native.Mathlib.Nat.{zero-add, sub-zero}
+use native.Mathlib.Omega.{arith}
+use borrow.Author.Rules.{rules}
+use lib.ListN.{length, length-set}
+use Rattle.frozen.specs.Frozen.{marks_of, free_count}
+use Rattle.frozen.proofs.Turns.{next_below, count_free, count_frozen, some_free}
+use Rattle.frozen.proofs.Moves.{gather_free, gather_frozen, drop_next, gather_short, gather_no_room, gather-end}
+use Rattle.frozen.proofs.moved.gather_free.Goals as goal
+
+pub returns-then-src-n : goal.returns-then-src-n
+returns-then-src-n c = let g = c.args in gather_short g.n g.marks g.src.now g.dst.now c.if-src-n.true
+
+pub returns-then-dst-free_count : goal.returns-then-dst-free_count
+returns-then-dst-free_count c =
+    let g = c.args in
+    let h : length g.dst.now < free_count (marks_of g.n g.marks) = search rules in
+    gather_no_room g.n g.marks g.src.now g.dst.now c.if-src-n.false h
+
+pub loop-k-init : goal.loop-k-init
+loop-k-init c = (search rules, search rules, refl, rw sub-zero (zero-add _), refl, rw sub-zero refl)
+
+pub bounds-dst-j : goal.bounds-dst-j
+bounds-dst-j c =
+    let l = c.loop-k in
+    let g = c.args in
+    let s = some_free (g.n - l.k) l.x (omega arith) c.if-x-lt32768.true in
+    omega arith
+
+pub loop-k-preserved : goal.loop-k-preserved
+loop-k-preserved c =
+    let g = c.args in
+    let l = c.loop-k in
+    let h = c.loop-k-test.true in
+    let b = next_below l.x l.invariant.0 in
+    let p : l.k < length g.src.now = search rules in
+    let e : g.n - l.k - 1 ≡ g.n - (l.k + 1) = omega arith in
+    rw c.next_of-x.ensures
+    (⊎_elim
+    (λ w.
+    let s = some_free (g.n - l.k) l.x (omega arith) w.0.taken in
+    let q : l.j < length l.dst = omega arith in
+    rw (w.2, w.3) (
+      b,
+      search rules,
+      simp length-set l.invariant.2,
+      rw (← e) (count_free (g.n - l.k) l.x l.j (omega arith) w.0.taken ∙ l.invariant.3),
+      drop_next l.j _ l.dst g.dst.now l.invariant.4,
+      gather_free g.n l.k l.x h g.src.now l.dst l.j w.0.taken p q ∙ l.invariant.5,
+    ))
+    (λ w.
+    rw (w.1, w.2) (
+      b,
+      search rules,
+      l.invariant.2,
+      rw (← e) (count_frozen (g.n - l.k) l.x l.j (omega arith) w.0.left ∙ l.invariant.3),
+      l.invariant.4,
+      gather_frozen g.n l.k l.x h g.src.now l.dst l.j w.0.left p ∙ l.invariant.5,
+    ))
+    c.if-x-lt32768.branch)
+
+pub returns : goal.returns
+returns c =
+    let g = c.args in
+    let l = c.loop-k in
+    gather-end g.n g.marks g.src.now g.dst.now l.dst l.k l.x l.j c.loop-k-test.false c.if-src-n.false (omega arith) (omega arith) l.invariant.4 l.invariant.5

@@ -1,0 +1,44 @@
+use Prim.Native.Nat.{◌-◌, suc}
+use mathlib.Core.Path.{◌≡◌, refl, sym, ap, ◌∙◌}
+use native.Mathlib.Omega.{arith}
+use borrow.Author.Rules.{rules}
+use mathlib.Core.List.{[], map}
+use lib.ListN.{take, length-set}
+use lib.Seq.{get_or-take}
+use lib.Ieee.{nan}
+use Rattle.leaves.specs.Norm.{norm, either}
+use Rattle.leaves.proofs.Seen.{ranges_of_none}
+use Rattle.reduce.specs.inner.Bench.{grid}
+use Rattle.leaves.proofs.Squares.{columns-length}
+use Rattle.leaves.proofs.Overs.{over_turn, over_end}
+use Rattle.reduce.proofs.Begins.{norms-length, norms_at, bench-wide, measured_next}
+use Rattle.reduce.proofs.beginning.norms_in.Goals as goal
+
+pub loop-k-init : goal.loop-k-init
+loop-k-init c = (search rules, refl, refl, c.neither-seen.ensures ∙ ranges_of_none)
+
+pub loop-k-preserved : goal.loop-k-preserved
+loop-k-preserved c =
+    let l = c.loop-k in
+    let g = c.args in
+    let h = c.loop-k-test.true in
+    let b = grid g.m g.n g.bench.now in
+    let cs = take g.n b in
+    let w = bench-wide g.m g.n g.bench.now in
+    let s = norms-length cs ∙ w in
+    let v = c.norm_from-s.ensures.norm_value ∙ ap norm (sym (get_or-take g.n b l.k [] h)) ∙ sym (norms_at cs l.k (omega arith)) in
+    let more = ap (either l.seen) c.norm_from-s.ensures.seen_value in (
+      search rules,
+      simp length-set l.invariant.1,
+      over_turn nan (map norm cs) g.norms.now l.norms _ l.k (omega arith) (omega arith) v l.invariant.2,
+      c.either-seen.ensures ∙ more ∙ measured_next b l.k l.seen (omega (arith, columns-length g.m (suc g.n) g.bench.now)) l.invariant.3,
+    )
+
+pub returns : goal.returns
+returns c =
+    let l = c.loop-k in
+    let g = c.args in
+    let cs = take g.n (grid g.m g.n g.bench.now) in
+    let s = norms-length cs ∙ bench-wide g.m g.n g.bench.now in
+    let e : l.k ≡ g.n = omega (arith, c.loop-k-test.false, l.invariant.0) in
+    record { norms_after = l.invariant.2 ∙ over_end (map norm cs) g.norms.now l.k (omega (arith, c.loop-k-test.false)) (omega (arith, c.loop-k-test.false)); value = rw e at l.invariant.3 }

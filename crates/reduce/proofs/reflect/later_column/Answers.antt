@@ -1,0 +1,24 @@
+use native.Mathlib.Omega.{arith}
+use Prim.Native.Nat.{suc}
+use Rattle.reduce.specs.inner.Bench.{grid}
+use Rattle.leaves.proofs.Squares.{columns-length}
+use Rattle.reduce.proofs.Begins.{kept-bench}
+use Rattle.reduce.proofs.reflect.Reductions.{later_law, later-measured}
+use Rattle.reduce.proofs.reflect.later_column.Goals as goal
+
+pub reflect_column-requires : goal.reflect_column-requires
+reflect_column-requires c =     (c.requires.benched, (omega (arith, c.requires.k_lt_n), (c.requires.j_lt_m, c.requires.axis_len)))
+
+pub renew-requires : goal.renew-requires
+renew-requires c =     (kept-bench c.requires.benched c.reflect_column.auto.bench, (c.requires.k_lt_n, (c.requires.j_lt_m, (c.requires.diag_len, c.requires.work_len))))
+
+pub returns : goal.returns
+returns c =
+    let g = c.args in
+    let b = grid g.m g.n g.bench.now in
+    let long = columns-length g.m (suc g.n) g.bench.now in
+    let x = c.reflect_column in
+    let y = c.renew in (
+      λ o. later_law g.n g.j g.k g.axis.now b _ _ _ _ _ o c.requires.k_lt_n long x.ensures y.ensures.0,
+      λ o. later-measured g.n g.j g.k g.axis.now b _ _ _ o g.seen c.requires.k_lt_n long x.ensures y.ensures.1,
+    )

@@ -1,0 +1,14 @@
+use Prim.Native.Nat.{◌+◌, ◌-◌, suc}
+use native.Mathlib.Omega.{arith}
+use Rattle.reduce.specs.Reduction.{reflect as reflectOf, reflect_from}
+use Rattle.leaves.proofs.Grids.{tail_lent}
+use Rattle.reduce.proofs.reflect.reflect_column.Goals as goal
+
+pub returns : goal.returns
+unfolding reflect_from
+returns c =
+    let g = c.args in
+    let x = c.reflect in
+    let q = c.row_at-a in
+    tail_lent g.m (suc g.n) g.k g.j g.bench.now (reflectOf g.axis.now) _ (q.result + (g.m - g.j) - q.result) _ q.ensures.0 (omega arith) (omega arith) (omega arith) (omega arith)
+    x.ensures x.auto.1.0
