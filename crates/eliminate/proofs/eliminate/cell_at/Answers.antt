@@ -12,4 +12,6 @@ pub overflow_add-result : goal.overflow_add-result
 overflow_add-result c = let f = column_fits c.args.j c.args.n c.args.n c.requires.j_lt_n in let g : c.args.n * c.args.n ≤ 16 * 16 = mul-le-mul c.requires.n_bound c.requires.n_bound in omega arith
 
 pub returns : goal.returns
-returns c = let f = column_fits c.args.j c.args.n c.args.n c.requires.j_lt_n in (refl, omega arith)
+returns c =
+    let f = column_fits c.args.j c.args.n c.args.n c.requires.j_lt_n in
+    record { value = refl; i_bound = omega arith }

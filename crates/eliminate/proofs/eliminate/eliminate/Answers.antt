@@ -10,7 +10,10 @@ pub slice_bounds-save_diagonal-end : goal.slice_bounds-save_diagonal-end
 slice_bounds-save_diagonal-end c = let e = ap length c.room16-saved.ensures in let p = c.requires.square.small in simp length-take (omega arith)
 
 pub save_diagonal-requires : goal.save_diagonal-requires
-save_diagonal-requires c = let e = ap length c.room16-saved.ensures in let p = c.requires.square in (record { small = p.small; whole = c.mirror.auto.square ∙ p.whole }, simp length-take (omega (arith, p.small)))
+save_diagonal-requires c =
+    let e = ap length c.room16-saved.ensures in
+    let p = c.requires.square in
+    record { square = record { small = p.small; whole = c.mirror.auto.square ∙ p.whole }; saved_len = simp length-take (omega (arith, p.small)) }
 
 pub slice_bounds-saved-end-2 : goal.slice_bounds-saved-end-2
 slice_bounds-saved-end-2 c =
@@ -31,12 +34,13 @@ slice_bounds-eliminate_rows-end c =
 pub eliminate_rows-requires : goal.eliminate_rows-requires
 eliminate_rows-requires c =
     let g = c.args in
+    let p = c.requires in
     let e = ap length c.room16-saved.ensures in
-    let f = c.requires.square.small in
+    let f = p.square.small in
     let d = c.save_diagonal in
     let r = c.room16-saved.result in
-    let k : length d.new.1.1.0 ≡ g.n = d.auto.1.1.0 ∙ length-take-le g.n r (omega arith) in
-    record { square = record { small = f; whole = c.mirror.auto.square ∙ c.requires.square.whole }; ds_len = c.requires.ds_len; rhs_len = c.requires.rhs_len; ldiag_len = c.requires.ldiag_len; saved_value = take_at d.new.1.1.0 (drop g.n r) g.n k ∙ d.ensures }
+    let k : length d.new.saved ≡ g.n = d.auto.saved ∙ length-take-le g.n r (omega arith) in
+    record { square = record { small = f; whole = c.mirror.auto.square ∙ p.square.whole }; ds_len = p.ds_len; rhs_len = p.rhs_len; ldiag_len = p.ldiag_len; saved_value = take_at d.new.saved (drop g.n r) g.n k ∙ d.ensures }
 
 pub returns : goal.returns
 returns c =
@@ -44,6 +48,6 @@ returns c =
     let q = c.requires.square in
     let m = c.mirror in
     let r = c.eliminate_rows in
-    let w : length m.new.0 ≡ g.n * g.n = m.auto.0 ∙ q.whole in
-    eliminates_by g.n g.ds.now g.square.now m.new.0 r.new.0 g.rhs.now r.new.1.1.1.0 r.new.1.1.1.1.0
-    (record { small = q.small; whole = w }) (record { small = q.small; whole = r.auto.0 ∙ w }) m.ensures r.ensures
+    let w : length m.new.square ≡ g.n * g.n = m.auto.square ∙ q.whole in
+    eliminates_by g.n g.ds.now g.square.now m.new.square r.new.square g.rhs.now r.new.rhs r.new.ldiag
+    (record { small = q.small; whole = w }) (record { small = q.small; whole = r.auto.square ∙ w }) m.ensures r.ensures

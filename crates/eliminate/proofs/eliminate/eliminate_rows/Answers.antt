@@ -10,7 +10,8 @@ use Rattle.eliminate.proofs.eliminate.eliminate_rows.Goals as goal
 pub loop-j-init : goal.loop-j-init
 loop-j-init c =
     let g = c.args in
-    (search rules, refl, search rules, search rules, ap length c.requires.saved_value ∙ heads-length (edges_of g.n g.square.now) ∙ edges_of-length g.n g.square.now, settle_none g.n g.ds.now g.square.now g.rhs.now g.ldiag.now)
+    let p = c.requires in
+    (search rules, refl, search rules, search rules, ap length p.saved_value ∙ heads-length (edges_of g.n g.square.now) ∙ edges_of-length g.n g.square.now, settle_none g.n g.ds.now g.square.now g.rhs.now g.ldiag.now)
 
 pub start_row-requires : goal.start_row-requires
 start_row-requires c = record { square = record { small = c.requires.square.small; whole = c.loop-j.invariant.1 ∙ c.requires.square.whole }; j_lt_n = search rules; rhs_len = search rules }
@@ -22,17 +23,18 @@ pub loop-j-preserved : goal.loop-j-preserved
 loop-j-preserved c =
     let l = c.loop-j in
     let g = c.args in
+    let p = c.requires in
     let a = c.start_row in
     let z = c.End-row in
     let h = c.loop-j-test.true in
-    let k : length a.new.1.1.1.1.0 ≡ g.n = a.auto.1.1.1.1.0 ∙ l.invariant.2 in (
+    let k : length a.new.rhs ≡ g.n = a.auto.rhs ∙ l.invariant.2 in (
       search rules,
-      z.auto.0 ∙ a.auto.0 ∙ l.invariant.1,
+      z.auto.0 ∙ a.auto.square ∙ l.invariant.1,
       k,
       simp length-set l.invariant.3,
       l.invariant.4,
-      settle_turn g.n l.j g.ds.now g.square.now l.square a.new.0 z.new.0 l.rhs a.new.1.1.1.1.0 l.ldiag _ z.result h c.requires.ds_len l.invariant.2 k l.invariant.3
-          (rw c.requires.saved_value) l.invariant.5 a.ensures z.ensures,
+      settle_turn g.n l.j g.ds.now g.square.now l.square a.new.square z.new.0 l.rhs a.new.rhs l.ldiag _ z.result h p.ds_len l.invariant.2 k l.invariant.3
+          (rw p.saved_value) l.invariant.5 a.ensures z.ensures,
     )
 
 pub returns : goal.returns

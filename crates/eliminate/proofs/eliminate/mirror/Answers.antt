@@ -15,7 +15,7 @@ loop-k-preserved c =
     let l = c.loop-k in
     let g = c.args in
     let m = c.mirror_column in
-    (search rules, m.auto.0 ∙ l.invariant.1, all_turn g.n l.k g.square.now l.square m.new.0 c.loop-k-test.true l.invariant.2 m.ensures)
+    (search rules, m.auto.square ∙ l.invariant.1, all_turn g.n l.k g.square.now l.square m.new.square c.loop-k-test.true l.invariant.2 m.ensures)
 
 pub returns : goal.returns
 returns c =

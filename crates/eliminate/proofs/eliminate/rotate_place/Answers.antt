@@ -6,11 +6,13 @@ pub returns-then-l-k : goal.returns-then-l-k
 unfolding of_bits
 returns-then-l-k c =
     let g = c.args in
-    place_skipped g.n g.k g.square.now g.rhs.now g.l.now g.q c.requires.square c.requires.k_lt_n c.requires.l_len c.requires.rhs_len c.if-l-k.true
+    let p = c.requires in
+    place_skipped g.n g.k g.square.now g.rhs.now g.l.now g.q p.square p.k_lt_n p.l_len p.rhs_len c.if-l-k.true
 
 pub returns : goal.returns
 unfolding of_bits
 returns c =
     let g = c.args in
+    let p = c.requires in
     let t = c.turn_place-p in
-    place_turned g.n g.k g.square.now g.rhs.now g.l.now g.q c.requires.square c.requires.k_lt_n c.requires.l_len c.requires.rhs_len t.result t.new.0 t.new.1.0 c.if-l-k.false _ c.cell_at-from.ensures.value t.ensures
+    place_turned g.n g.k g.square.now g.rhs.now g.l.now g.q p.square p.k_lt_n p.l_len p.rhs_len t.result t.new.col t.new.l c.if-l-k.false _ c.cell_at-from.ensures.value t.ensures

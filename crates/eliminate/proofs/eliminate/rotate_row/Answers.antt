@@ -16,7 +16,7 @@ pub loop-k-preserved : goal.loop-k-preserved
 loop-k-preserved c =
     let l = c.loop-k in
     let m = c.rotate_place-q in
-    (search rules, m.auto.0 ∙ l.invariant.1, m.auto.1.1.1.0 ∙ l.invariant.2, m.auto.1.1.1.1.0 ∙ l.invariant.3, record { same = m.ensures.same ∙ l.invariant.4.same; above = m.ensures.above ∙ l.invariant.4.above })
+    (search rules, m.auto.square ∙ l.invariant.1, m.auto.l ∙ l.invariant.2, m.auto.rhs ∙ l.invariant.3, record { same = m.ensures.same ∙ l.invariant.4.same; above = m.ensures.above ∙ l.invariant.4.above })
 
 pub returns : goal.returns
 returns c =

@@ -17,11 +17,15 @@ pub slice_bounds-rotate_row-end : goal.slice_bounds-rotate_row-end
 slice_bounds-rotate_row-end c = let e = ap length c.room16-l.ensures in simp (length-take, length-set) (omega arith)
 
 pub rotate_row-requires : goal.rotate_row-requires
-rotate_row-requires c = let e = ap length c.room16-l.ensures in (c.requires.square, (search rules, (simp (length-take, length-set) (omega arith), search rules)))
+rotate_row-requires c =
+    let e = ap length c.room16-l.ensures in
+    let p = c.requires in
+    record { square = p.square; j_le_n = search rules; l_len = simp (length-take, length-set) (omega arith); rhs_len = search rules }
 
 pub returns : goal.returns
 unfolding of_bits
 returns c =
     let g = c.args in
+    let p = c.requires in
     let m = c.rotate_row in
-    start-turned g.n g.j g.square.now m.new.0 g.rhs.now m.new.1.1.1.1.0 c.room16-l.result g.d c.requires.square.small c.requires.j_lt_n c.if-d.false c.room16-l.ensures m.ensures
+    start-turned g.n g.j g.square.now m.new.square g.rhs.now m.new.rhs c.room16-l.result g.d p.square.small p.j_lt_n c.if-d.false c.room16-l.ensures m.ensures

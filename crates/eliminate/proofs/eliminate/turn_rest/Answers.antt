@@ -56,7 +56,5 @@ returns c =
     let long = i.col_long in
     let a = turned-length g.g g.col.now g.l.now same in
     let b = left-length g.g g.col.now g.l.now same in
-    let e = c.loop-i-test.false in (
-      front_end (turned_all g.g g.col.now g.l.now) g.col.now l.col l.i a (omega arith) i.col_done,
-      front_end (left_all g.g g.col.now g.l.now) g.l.now l.l l.i b (omega arith) i.l_done,
-    )
+    let e = c.loop-i-test.false in
+    record { col_after = front_end (turned_all g.g g.col.now g.l.now) g.col.now l.col l.i a (omega arith) i.col_done; l_after = (front_end (left_all g.g g.col.now g.l.now) g.l.now l.l l.i b (omega arith) i.l_done, ) }

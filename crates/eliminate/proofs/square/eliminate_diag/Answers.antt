@@ -17,11 +17,12 @@ eliminate-requires c =
 pub returns-then-n-eq1 : goal.returns-then-n-eq1
 returns-then-n-eq1 c =
     let g = c.args in
+    let k = c.check-c.ensures in
     let z = c.if-c-ne0.false in
     let e = c.eliminate in
-    let f = fitting g.n (length g.square.now) (length g.ds.now) (length g.rhs.now) (length g.ldiag.now) c.check-c.ensures z in
-    diag_worked g.n g.ds.now g.square.now g.rhs.now g.ldiag.now _ e.new.0 e.new.1.1.1.0 e.new.1.1.1.1.0
-    c.check-c.ensures z (e.auto.0 ∙ f.cells) e.ensures
+    let f = fitting g.n (length g.square.now) (length g.ds.now) (length g.rhs.now) (length g.ldiag.now) k z in
+    diag_worked g.n g.ds.now g.square.now g.rhs.now g.ldiag.now _ e.new.square e.new.rhs e.new.ldiag
+    k z (e.auto.square ∙ f.cells) e.ensures
 
 pub eliminate-requires-2 : goal.eliminate-requires-2
 eliminate-requires-2 c =
@@ -32,8 +33,9 @@ eliminate-requires-2 c =
 pub returns : goal.returns
 returns c =
     let g = c.args in
+    let k = c.check-c.ensures in
     let z = c.if-c-ne0.false in
     let e = c.eliminate-2 in
-    let f = fitting g.n (length g.square.now) (length g.ds.now) (length g.rhs.now) (length g.ldiag.now) c.check-c.ensures z in
-    diag_worked g.n g.ds.now g.square.now g.rhs.now g.ldiag.now _ e.new.0 e.new.1.1.1.0 e.new.1.1.1.1.0
-    c.check-c.ensures z (e.auto.0 ∙ f.cells) e.ensures
+    let f = fitting g.n (length g.square.now) (length g.ds.now) (length g.rhs.now) (length g.ldiag.now) k z in
+    diag_worked g.n g.ds.now g.square.now g.rhs.now g.ldiag.now _ e.new.square e.new.rhs e.new.ldiag
+    k z (e.auto.square ∙ f.cells) e.ensures

@@ -23,7 +23,8 @@ overflow_mul-need c =
     let i = inside _ _ (sym c.outside.ensures ∙ c.if-outside.false) in
     let q = jacobian_small i in
     let w = free_fits g.m g.n g.marks in
-    rw c.free_count.ensures (search rules)
+    let e = c.free_count.ensures in
+    rw e (search rules)
 
 pub returns-then-dst-need : goal.returns-then-dst-need
 returns-then-dst-need c =
@@ -41,4 +42,6 @@ copy_free-requires c =
     record { n_in_bounds = search rules; dst_len = simp length-take (omega arith) }
 
 pub returns : goal.returns
-returns c =     rw c.free_count.ensures (columns_done c.args.m c.args.n c.args.marks c.args.src.now c.args.dst.now (sym c.outside.ensures ∙ c.if-outside.false) c.if-src-m.false _ (rw c.free_count.ensures at c.if-dst-need.false) c.copy_free.ensures)
+returns c =
+    let e = c.free_count.ensures in
+    rw e (columns_done c.args.m c.args.n c.args.marks c.args.src.now c.args.dst.now (sym c.outside.ensures ∙ c.if-outside.false) c.if-src-m.false _ (rw e at c.if-dst-need.false) c.copy_free.ensures)

@@ -1,6 +1,5 @@
 use Prim.Native.Nat.{◌+◌, ◌-◌, ◌<◌}
 use mathlib.Core.Path.{◌≡◌, refl, ◌∙◌}
-use mathlib.Core.Logic.{⊎_elim}
 use native.Mathlib.Nat.{zero-add, sub-zero}
 use native.Mathlib.Omega.{arith}
 use borrow.Author.Rules.{rules}
@@ -9,6 +8,7 @@ use Rattle.frozen.specs.Frozen.{marks_of, free_count}
 use Rattle.frozen.proofs.Turns.{next_below, count_free, count_frozen, some_free}
 use Rattle.frozen.proofs.Moves.{gather_free, gather_frozen, drop_next, gather_short, gather_no_room, gather-end}
 use Rattle.frozen.proofs.moved.gather_free.Goals as goal
+use Rattle.frozen.proofs.moved.gather_free.Goals.{then-x-lt32768, else-x-lt32768}
 
 pub returns-then-src-n : goal.returns-then-src-n
 returns-then-src-n c = let g = c.args in gather_short g.n g.marks g.src.now g.dst.now c.if-src-n.true
@@ -16,7 +16,7 @@ returns-then-src-n c = let g = c.args in gather_short g.n g.marks g.src.now g.ds
 pub returns-then-dst-free_count : goal.returns-then-dst-free_count
 returns-then-dst-free_count c =
     let g = c.args in
-    let h : length g.dst.now < free_count (marks_of g.n g.marks) = search rules in
+    let h : length g.dst.now < free_count (marks_of g.n g.marks) = let e = c.free_count.ensures in search rules in
     gather_no_room g.n g.marks g.src.now g.dst.now c.if-src-n.false h
 
 pub loop-k-init : goal.loop-k-init
@@ -27,6 +27,7 @@ bounds-dst-j c =
     let l = c.loop-k in
     let g = c.args in
     let s = some_free (g.n - l.k) l.x (omega arith) c.if-x-lt32768.true in
+    let e = c.free_count.ensures in
     omega arith
 
 pub loop-k-preserved : goal.loop-k-preserved
@@ -38,31 +39,31 @@ loop-k-preserved c =
     let p : l.k < length g.src.now = search rules in
     let e : g.n - l.k - 1 ≡ g.n - (l.k + 1) = omega arith in
     rw c.next_of-x.ensures
-    (⊎_elim
-    (λ w.
-    let s = some_free (g.n - l.k) l.x (omega arith) w.0.taken in
+    (elim c.if-x-lt32768.branch [
+      | then-x-lt32768 w ↦ let s = some_free (g.n - l.k) l.x (omega arith) w.if-x-lt32768.true in
+    let f = c.free_count.ensures in
     let q : l.j < length l.dst = omega arith in
-    rw (w.2, w.3) (
+    rw (w.dst-is, w.j-is) (
       b,
       search rules,
       simp length-set l.invariant.2,
-      rw (← e) (count_free (g.n - l.k) l.x l.j (omega arith) w.0.taken ∙ l.invariant.3),
+      rw (← e) (count_free (g.n - l.k) l.x l.j (omega arith) w.if-x-lt32768.true ∙ l.invariant.3),
       drop_next l.j _ l.dst g.dst.now l.invariant.4,
-      gather_free g.n l.k l.x h g.src.now l.dst l.j w.0.taken p q ∙ l.invariant.5,
-    ))
-    (λ w.
-    rw (w.1, w.2) (
+      gather_free g.n l.k l.x h g.src.now l.dst l.j w.if-x-lt32768.true p q ∙ l.invariant.5,
+    )
+      | else-x-lt32768 w ↦ rw (w.dst-is, w.j-is) (
       b,
       search rules,
       l.invariant.2,
-      rw (← e) (count_frozen (g.n - l.k) l.x l.j (omega arith) w.0.left ∙ l.invariant.3),
+      rw (← e) (count_frozen (g.n - l.k) l.x l.j (omega arith) w.if-x-lt32768.false ∙ l.invariant.3),
       l.invariant.4,
-      gather_frozen g.n l.k l.x h g.src.now l.dst l.j w.0.left p ∙ l.invariant.5,
-    ))
-    c.if-x-lt32768.branch)
+      gather_frozen g.n l.k l.x h g.src.now l.dst l.j w.if-x-lt32768.false p ∙ l.invariant.5,
+    )
+    ])
 
 pub returns : goal.returns
 returns c =
     let g = c.args in
     let l = c.loop-k in
+    let e = c.free_count.ensures in
     gather-end g.n g.marks g.src.now g.dst.now l.dst l.k l.x l.j c.loop-k-test.false c.if-src-n.false (omega arith) (omega arith) l.invariant.4 l.invariant.5

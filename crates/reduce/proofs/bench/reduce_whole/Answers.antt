@@ -25,30 +25,33 @@ slice_bounds-begin_filled-end c = sym (length-take-le _ _ (scratch _ _ _ c.requi
 
 pub begin_filled-seen-requires : goal.begin_filled-seen-requires
 begin_filled-seen-requires c =
-    let i = inside _ _ c.requires.n_value in
-    record { benched = benched _ i c.requires.bench_len; m_nonzero = i.rows_some; norms_len = c.requires.norms_len; diag_len = c.requires.diag_len; work_len = length-take-le _ _ (scratch _ _ _ c.requires.n_value c.room16-work.ensures); order_len = c.requires.order_len }
+    let p = c.requires in
+    let i = inside _ _ p.n_value in
+    record { benched = benched _ i p.bench_len; m_nonzero = i.rows_some; norms_len = p.norms_len; diag_len = p.diag_len; work_len = length-take-le _ _ (scratch _ _ _ p.n_value c.room16-work.ensures); order_len = p.order_len }
 
 pub slice_bounds-work-end-2 : goal.slice_bounds-work-end-2
 slice_bounds-work-end-2 c =
     let x = c.begin_filled-seen in
-    front_in _ x.new.1.1.1.1.1.0 _ (scratch _ _ _ c.requires.n_value c.room16-work.ensures) x.auto.1.1.1.1.1.0
+    front_in _ x.new.work _ (scratch _ _ _ c.requires.n_value c.room16-work.ensures) x.auto.work
 
 pub slice_bounds-reduce-end : goal.slice_bounds-reduce-end
 slice_bounds-reduce-end c =
     let x = c.begin_filled-seen in
-    sym (front_long _ x.new.1.1.1.1.1.0 _ (scratch _ _ _ c.requires.n_value c.room16-work.ensures) x.auto.1.1.1.1.1.0)
+    sym (front_long _ x.new.work _ (scratch _ _ _ c.requires.n_value c.room16-work.ensures) x.auto.work)
 
 pub reduce-requires : goal.reduce-requires
 reduce-requires c =
+    let p = c.requires in
     let x = c.begin_filled-seen in
-    let w = front_long _ x.new.1.1.1.1.1.0 _ (scratch _ _ _ c.requires.n_value c.room16-work.ensures) x.auto.1.1.1.1.1.0 in
-    record { benched = benched _ (inside _ _ c.requires.n_value) c.requires.bench_len; diag_len = x.auto.1.1.1.1.0 ∙ c.requires.diag_len; work_len = w; order_len = x.auto.1.1.1.1.1.1.0 ∙ c.requires.order_len; axis_len = c.room128-axis.ensures; diag_value = start-norms _ _ _ _ _ _ _ _ x.ensures.1.0; seen_value = x.ensures.1.1 }
+    let w = front_long _ x.new.work _ (scratch _ _ _ p.n_value c.room16-work.ensures) x.auto.work in
+    record { benched = benched _ (inside _ _ p.n_value) p.bench_len; diag_len = x.auto.diag ∙ p.diag_len; work_len = w; order_len = x.auto.order ∙ p.order_len; axis_len = c.room128-axis.ensures; diag_value = start-norms _ _ _ _ _ _ _ _ x.ensures.order_after; seen_value = x.ensures.value }
 
 pub returns : goal.returns
 returns c =
     let g = c.args in
+    let p = c.requires in
     let r = c.room16-work in
     let x = c.begin_filled-seen in
     let y = c.reduce in
-    let w = front_again g.n x.new.1.1.1.1.1.0 r.result (scratch _ _ _ c.requires.n_value r.ensures) x.auto.1.1.1.1.1.0 in
-    filled_works_out g.m g.n g.norms.now g.diag.now g.order.now g.bench.now c.requires.n_value c.requires.norms_len c.requires.diag_len c.requires.order_len c.requires.bench_len x.new.1.1.1.0 x.new.1.1.1.1.0 x.new.1.1.1.1.1.0 _ y.new.1.1.1.0 y.new.1.1.1.1.0 y.new.1.1.0 x.new.1.1.1.1.1.1.0 y.new.1.1.1.1.1.0 x.result y.result x.ensures.0 x.ensures.1.0 w y.ensures.0 x.ensures.1.1 y.ensures.1 y.auto.1.1.0
+    let w = front_again g.n x.new.work r.result (scratch _ _ _ p.n_value r.ensures) x.auto.work in
+    filled_works_out g.m g.n g.norms.now g.diag.now g.order.now g.bench.now p.n_value p.norms_len p.diag_len p.order_len p.bench_len x.new.norms x.new.diag x.new.work _ y.new.diag y.new.work y.new.bench x.new.order y.new.order x.result y.result x.ensures.norms_after x.ensures.order_after w y.ensures.order_after x.ensures.value y.ensures.value y.auto.bench

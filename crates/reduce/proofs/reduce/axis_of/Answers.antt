@@ -9,5 +9,5 @@ pub returns : goal.returns
 returns c =
     let g = c.args in
     let q = c.row_at-a in
-    let part = tail_part g.m (suc g.n) g.j g.j g.bench.now q.result (q.result + (g.m - g.j) - q.result) q.ensures.0 (omega arith) (omega arith) in
+    let part = tail_part g.m (suc g.n) g.j g.j g.bench.now q.result (q.result + (g.m - g.j) - q.result) q.ensures.value (omega arith) (omega arith) in
     record { value = c.signed-t.ensures ∙ ap (signed g.s) part; axis_after = c.make_axis.ensures ∙ ap (axis_by c.signed-t.result) part }

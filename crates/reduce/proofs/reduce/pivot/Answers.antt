@@ -39,4 +39,4 @@ returns c =
     let l = simp (length-take, length-drop) at c.imax_of-d.ensures.upper_bound in
     let x = c.swap_entries in
     pivot_moves g.n g.j (g.j + c.imax_of-d.result) (grid g.m g.n g.bench.now) (omega arith) (omega arith) _ d g.work.now _ _ g.order.now _
-    (ap (λ (i : ℕ). g.j + i) e) c.swap_columns.ensures x.ensures.0 x.ensures.1.0 x.ensures.1.1
+    (ap (λ (i : ℕ). g.j + i) e) c.swap_columns.ensures x.ensures.diag_after x.ensures.work_after x.ensures.order_after

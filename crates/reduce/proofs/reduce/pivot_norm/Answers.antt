@@ -11,30 +11,37 @@ use Rattle.reduce.proofs.Pivots.{first_seen}
 use Rattle.reduce.proofs.reduce.pivot_norm.Goals as goal
 
 pub first_pivot-requires : goal.first_pivot-requires
-first_pivot-requires c =     (c.requires.benched, (omega (arith, c.requires.j_lt_n), (c.requires.diag_len, (c.requires.work_len, (c.requires.order_len, c.requires.diag_value c.if-j-eq0.true)))))
+first_pivot-requires c =
+    let p = c.requires in
+    record { benched = p.benched; n_nonzero = omega (arith, p.j_lt_n); diag_len = p.diag_len; work_len = p.work_len; order_len = p.order_len; diag_value = p.diag_value c.if-j-eq0.true }
 
 pub returns-then-j-eq0 : goal.returns-then-j-eq0
 returns-then-j-eq0 c =
     let g = c.args in
+    let p = c.requires in
     let x = c.first_pivot in
     let z = c.if-j-eq0.true in
     let r = under_way g.m g.n g.bench.now g.diag.now g.work.now g.order.now in
     let w = bench-wide g.m g.n g.bench.now in
-    let seen = first_seen r (omega (arith, w, c.requires.j_lt_n)) (c.requires.diag_value z) (c.requires.seen_value z) in
-    let there = ap (λ (q : Reduction). either g.seen (ranges (get_or q.cols 0 []))) (sym x.ensures.1) in
-    rw z (x.ensures.0, (seen ∙ there, x.ensures.1))
+    let seen = first_seen r (omega (arith, w, p.j_lt_n)) (p.diag_value z) (p.seen_value z) in
+    let there = ap (λ (q : Reduction). either g.seen (ranges (get_or q.cols 0 []))) (sym x.ensures.order_after) in
+    rw z (x.ensures.value, (seen ∙ there, x.ensures.order_after))
 
 pub pivot-requires : goal.pivot-requires
-pivot-requires c =     (c.requires.benched, (c.requires.j_lt_n, (c.requires.diag_len, (c.requires.work_len, c.requires.order_len))))
+pivot-requires c =
+    let p = c.requires in
+    record { benched = p.benched; j_lt_n = p.j_lt_n; diag_len = p.diag_len; work_len = p.work_len; order_len = p.order_len }
 
 pub norm_from-s-requires : goal.norm_from-s-requires
-norm_from-s-requires c =     (kept-bench c.requires.benched c.pivot.auto.bench, (c.requires.j_lt_n, c.requires.j_lt_m))
+norm_from-s-requires c =
+    let p = c.requires in
+    record { benched = kept-bench p.benched c.pivot.auto.bench; k_lt_n = p.j_lt_n; j_lt_m = p.j_lt_m }
 
 pub returns : goal.returns
 returns c =
     let g = c.args in
     let x = c.pivot in
-    let b = grid g.m g.n x.new.1.1.1.0 in
+    let b = grid g.m g.n x.new.bench in
     let there = ap (drop g.j) (sym (get_or-take g.n b g.j [] c.requires.j_lt_n)) in
     let s = c.norm_from-s in
-    record { norm_value = s.ensures.0 ∙ ap norm there; seen_value_2 = c.either.ensures ∙ ap (either g.seen) (s.ensures.1 ∙ ap ranges there); order_after = x.ensures }
+    record { norm_value = s.ensures.norm_value ∙ ap norm there; seen_value_2 = c.either.ensures ∙ ap (either g.seen) (s.ensures.seen_value ∙ ap ranges there); order_after = x.ensures }

@@ -25,8 +25,9 @@ pub reduce_column-all-requires : goal.reduce_column-all-requires
 reduce_column-all-requires c =
     let g = c.args in
     let l = c.loop-j in
+    let p = c.requires in
     let t = c.loop-j-test.true in
-    record { benched = kept-bench c.requires.benched l.invariant.2; j_lt_n = omega (arith, t, l.invariant.1); j_lt_m = omega (arith, t, l.invariant.1); diag_len = l.invariant.3 ∙ c.requires.diag_len; work_len = l.invariant.4 ∙ c.requires.work_len; order_len = l.invariant.5 ∙ c.requires.order_len; axis_len = l.invariant.6 ∙ c.requires.axis_len; diag_value = λ z. begun ((rw z at l.invariant.7) ∙ sym (upto_none (reduced g.n) _)) c.requires.diag_value; seen_value = λ z. unseen g.seen ((rw z at l.invariant.7) ∙ sym (upto_none (reduced g.n) _)) ((rw z at l.invariant.8) ∙ sym (along_none (measured_at g.n) (reduced g.n) g.seen _)) c.requires.seen_value }
+    record { benched = kept-bench p.benched l.invariant.2; j_lt_n = omega (arith, t, l.invariant.1); j_lt_m = omega (arith, t, l.invariant.1); diag_len = l.invariant.3 ∙ p.diag_len; work_len = l.invariant.4 ∙ p.work_len; order_len = l.invariant.5 ∙ p.order_len; axis_len = l.invariant.6 ∙ p.axis_len; diag_value = λ z. begun ((rw z at l.invariant.7) ∙ sym (upto_none (reduced g.n) _)) p.diag_value; seen_value = λ z. unseen g.seen ((rw z at l.invariant.7) ∙ sym (upto_none (reduced g.n) _)) ((rw z at l.invariant.8) ∙ sym (along_none (measured_at g.n) (reduced g.n) g.seen _)) p.seen_value }
 
 pub loop-j-preserved : goal.loop-j-preserved
 loop-j-preserved c =
@@ -35,13 +36,13 @@ loop-j-preserved c =
     let x = c.reduce_column-all in (
       search rules,
       l.invariant.1,
-      x.auto.1.1.1.0 ∙ l.invariant.2,
-      x.auto.1.1.1.1.0 ∙ l.invariant.3,
-      x.auto.1.1.1.1.1.0 ∙ l.invariant.4,
-      x.auto.1.1.1.1.1.1.0 ∙ l.invariant.5,
-      x.auto.1.1.1.1.1.1.1.0 ∙ l.invariant.6,
-      upto_turn (reduced g.n) l.j _ l.invariant.7 x.ensures.0,
-      along_turn (measured_at g.n) (reduced g.n) g.seen _ l.j l.invariant.8 l.invariant.7 x.ensures.1,
+      x.auto.bench ∙ l.invariant.2,
+      x.auto.diag ∙ l.invariant.3,
+      x.auto.work ∙ l.invariant.4,
+      x.auto.order ∙ l.invariant.5,
+      x.auto.axis ∙ l.invariant.6,
+      upto_turn (reduced g.n) l.j _ l.invariant.7 x.ensures.order_after,
+      along_turn (measured_at g.n) (reduced g.n) g.seen _ l.j l.invariant.8 l.invariant.7 x.ensures.value,
     )
 
 pub returns : goal.returns

@@ -17,8 +17,9 @@ loop-k-init c =
 
 pub later_column-all-requires : goal.later_column-all-requires
 later_column-all-requires c =
+    let p = c.requires in
     let l = c.loop-k in
-    record { benched = kept-bench c.requires.benched l.invariant.2; k_lt_n = c.loop-k-test.true; j_lt_m = c.requires.j_lt_m; axis_len = c.requires.axis_len; diag_len = l.invariant.3 ∙ c.requires.diag_len; work_len = l.invariant.4 ∙ c.requires.work_len }
+    record { benched = kept-bench p.benched l.invariant.2; k_lt_n = c.loop-k-test.true; j_lt_m = p.j_lt_m; axis_len = p.axis_len; diag_len = l.invariant.3 ∙ p.diag_len; work_len = l.invariant.4 ∙ p.work_len }
 
 pub loop-k-preserved : goal.loop-k-preserved
 loop-k-preserved c =
@@ -27,11 +28,11 @@ loop-k-preserved c =
     let x = c.later_column-all in (
       search rules,
       search rules,
-      x.auto.1.1.1.1.1.0 ∙ l.invariant.2,
-      x.auto.1.1.1.1.1.1.0 ∙ l.invariant.3,
-      x.auto.1.1.1.1.1.1.1.0 ∙ l.invariant.4,
-      λ o. between_turn (later g.j g.axis.now) (suc g.j) l.k _ l.invariant.0 (l.invariant.5 o) (x.ensures.0 o),
-      λ o. along_between_turn (measured_later g.j g.axis.now) (later g.j g.axis.now) g.seen _ (suc g.j) l.k l.invariant.0 (l.invariant.6 o) (l.invariant.5 o) (x.ensures.1 o),
+      x.auto.bench ∙ l.invariant.2,
+      x.auto.diag ∙ l.invariant.3,
+      x.auto.work ∙ l.invariant.4,
+      λ o. between_turn (later g.j g.axis.now) (suc g.j) l.k _ l.invariant.0 (l.invariant.5 o) (x.ensures.steps o),
+      λ o. along_between_turn (measured_later g.j g.axis.now) (later g.j g.axis.now) g.seen _ (suc g.j) l.k l.invariant.0 (l.invariant.6 o) (l.invariant.5 o) (x.ensures.sees o),
     )
 
 pub returns : goal.returns

@@ -10,5 +10,5 @@ returns c =
     let g = c.args in
     let x = c.reflect in
     let q = c.row_at-a in
-    tail_lent g.m (suc g.n) g.k g.j g.bench.now (reflectOf g.axis.now) _ (q.result + (g.m - g.j) - q.result) _ q.ensures.0 (omega arith) (omega arith) (omega arith) (omega arith)
-    x.ensures x.auto.1.0
+    tail_lent g.m (suc g.n) g.k g.j g.bench.now (reflectOf g.axis.now) _ (q.result + (g.m - g.j) - q.result) _ q.ensures.value (omega arith) (omega arith) (omega arith) (omega arith)
+    x.ensures x.auto.col

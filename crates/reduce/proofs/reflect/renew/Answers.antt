@@ -23,13 +23,11 @@ returns-then-stale c =
     let g = c.args in
     let q = c.row_at-a in
     let col = get_or (grid g.m g.n g.bench.now) g.k [] in
-    let x = grid_read g.m (suc g.n) g.bench.now g.k g.j q.result q.ensures.0 (omega arith) (omega arith) in
+    let x = grid_read g.m (suc g.n) g.bench.now g.k g.j q.result q.ensures.value (omega arith) (omega arith) in
     let t = tail_part g.m (suc g.n) g.k (suc g.j) g.bench.now (q.result + 1) (q.result + (g.m - g.j) - (q.result + 1)) (omega arith) (omega arith) (omega arith) in
-    let old = sym c.stale.ensures ∙ c.if-stale.true in (
-      renewed_anew g.j g.k col g.diag.now g.work.now _ c.shrunk-s.result _ c.if-d.false x c.shrunk-s.ensures old (c.norm_of-z.ensures.norm_value ∙ ap norm t),
-      c.either.ensures
-          ∙ remeasured_anew g.j g.k col g.diag.now g.work.now g.seen _ c.shrunk-s.result _ c.if-d.false x c.shrunk-s.ensures old (c.norm_of-z.ensures.seen_value ∙ ap ranges t),
-    )
+    let old = sym c.stale.ensures ∙ c.if-stale.true in
+    record { work_after = renewed_anew g.j g.k col g.diag.now g.work.now _ c.shrunk-s.result _ c.if-d.false x c.shrunk-s.ensures old (c.norm_of-z.ensures.norm_value ∙ ap norm t); value = (c.either.ensures
+          ∙ remeasured_anew g.j g.k col g.diag.now g.work.now g.seen _ c.shrunk-s.result _ c.if-d.false x c.shrunk-s.ensures old (c.norm_of-z.ensures.seen_value ∙ ap ranges t), ) }
 
 pub returns-else-stale : goal.returns-else-stale
 unfolding of_bits
@@ -37,8 +35,6 @@ returns-else-stale c =
     let g = c.args in
     let q = c.row_at-a in
     let col = get_or (grid g.m g.n g.bench.now) g.k [] in
-    let x = grid_read g.m (suc g.n) g.bench.now g.k g.j q.result q.ensures.0 (omega arith) (omega arith) in
-    let old = sym c.stale.ensures ∙ c.if-stale.false in (
-      renewed_less g.j g.k col g.diag.now g.work.now c.shrunk-s.result _ c.if-d.false x c.shrunk-s.ensures old,
-      remeasured_less g.j g.k col g.diag.now g.work.now g.seen c.shrunk-s.result _ c.if-d.false x c.shrunk-s.ensures old,
-    )
+    let x = grid_read g.m (suc g.n) g.bench.now g.k g.j q.result q.ensures.value (omega arith) (omega arith) in
+    let old = sym c.stale.ensures ∙ c.if-stale.false in
+    record { work_after = renewed_less g.j g.k col g.diag.now g.work.now c.shrunk-s.result _ c.if-d.false x c.shrunk-s.ensures old; value = (remeasured_less g.j g.k col g.diag.now g.work.now g.seen c.shrunk-s.result _ c.if-d.false x c.shrunk-s.ensures old, ) }

@@ -5,7 +5,7 @@ use Rattle.leaves.proofs.Folds.{dot_is}
 use Rattle.reduce.proofs.wrap.dot_of.Goals as goal
 
 pub returns-in-Is : goal.returns-in-Is
-returns-in-Is c =     answered-same (sym (ap value_of c.s-1.given.1) ∙ c.dot.ensures ∙ sym (dot_is _ _ c.requires))
+returns-in-Is c = answered-same (sym (ap value_of c.in-Is.is) ∙ c.dot.ensures ∙ sym (dot_is _ _ c.requires))
 
 pub returns-in-Refused : goal.returns-in-Refused
-returns-in-Refused c =     answered-refused (dot_is _ _ c.requires ∙ sym c.dot.ensures ∙ ap value_of c.enum_told-1.given.1)
+returns-in-Refused c = answered-refused (dot_is _ _ c.requires ∙ sym c.dot.ensures ∙ ap value_of c.in-Refused.is)

@@ -6,4 +6,6 @@ use Rattle.reduce.proofs.wrap.norm_of.Goals as goal
 pub returns : goal.returns
 returns c =
     let v = c.args.v.now in
-    record { norm_value = ap (λ (s : Normed). s.value) c.enorm-s.ensures ∙ norm_carried v c.requires; seen_value = ap (λ (s : Normed). s.seen) c.enorm-s.ensures ∙ seen-carried v c.requires }
+    let h = c.requires in
+    let e = c.enorm-s.ensures in
+    record { norm_value = ap (λ (s : Normed). s.value) e ∙ norm_carried v h; seen_value = ap (λ (s : Normed). s.seen) e ∙ seen-carried v h }

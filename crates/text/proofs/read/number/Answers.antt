@@ -10,20 +10,20 @@ loop-i-init c = refl
 pub returns-in_default : goal.returns-in_default
 returns-in_default c =
     let l = c.loop-i in
-    number_stop _ _ l.v l.i _ _ c.loop-i-test.true (sym c.value-d.ensures ∙ c.enum_told-1.given.1) c.stop.ensures l.invariant
+    number_stop _ _ l.v l.i _ _ c.loop-i-test.true (sym c.value-d.ensures ∙ c.in_default.is) c.stop.ensures l.invariant
 
 pub returns-then-v-ge1152921504606846976 : goal.returns-then-v-ge1152921504606846976
 returns-then-v-ge1152921504606846976 c =
     let l = c.loop-i in
-    number_over _ _ l.v l.i _ _ c.loop-i-test.true (sym c.value-d.ensures ∙ c.d-1.given.1) c.if-v-ge1152921504606846976.true l.invariant
+    number_over _ _ l.v l.i _ _ c.loop-i-test.true (sym c.value-d.ensures ∙ c.in-Is.is) c.if-v-ge1152921504606846976.true l.invariant
 
 pub overflow_add-v : goal.overflow_add-v
-overflow_add-v c = omega (arith, is_small_lem _ _ (sym c.value-d.ensures ∙ c.d-1.given.1))
+overflow_add-v c = omega (arith, is_small_lem _ _ (sym c.value-d.ensures ∙ c.in-Is.is))
 
 pub loop-i-preserved : goal.loop-i-preserved
 loop-i-preserved c =
     let l = c.loop-i in
-    number_go _ _ l.v l.i _ _ c.loop-i-test.true (sym c.value-d.ensures ∙ c.d-1.given.1) c.if-v-ge1152921504606846976.false l.invariant
+    number_go _ _ l.v l.i _ _ c.loop-i-test.true (sym c.value-d.ensures ∙ c.in-Is.is) c.if-v-ge1152921504606846976.false l.invariant
 
 pub returns : goal.returns
 returns c = let l = c.loop-i in number_end _ _ l.v l.i _ _ c.loop-i-test.false c.end.ensures l.invariant
