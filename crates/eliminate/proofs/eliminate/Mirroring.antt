@@ -24,7 +24,7 @@ rows_length j (c ∷ cs) = ap suc (rows_length (suc j) cs)
 rows_from_at : (j i : ℕ) (cs : List (List Float)) → i < length cs → get_or (rows_from j cs) i [] ≡ map (λ d. get_or d (j + i) nan) (drop i cs)
 unfolding rows_from
 rows_from_at j i [] h = absurd (not-suc-le-zero h)
-rows_from_at j zero (c ∷ cs) h = let e : j + 0 ≡ j = omega arith in rw e
+rows_from_at j zero (c ∷ cs) h = let e : j ≡ j + 0 = omega arith in ap (λ (q : ℕ). map (λ d. get_or d q nan) (c ∷ cs)) e
 rows_from_at j (suc i) (c ∷ cs) h = let e : suc j + i ≡ j + suc i = omega arith in rw e at (rows_from_at (suc j) i cs (le_of_suc-le-suc h))
 
 abbrev row_of : ℕ → List Float → ℕ → List Float

@@ -25,15 +25,15 @@ loop-j-preserved c =
     let g = c.args in
     let p = c.requires in
     let a = c.start_row in
-    let z = c.End-row in
+    let z = c.end_row in
     let h = c.loop-j-test.true in
     let k : length a.new.rhs ≡ g.n = a.auto.rhs ∙ l.invariant.2 in (
       search rules,
-      z.auto.0 ∙ a.auto.square ∙ l.invariant.1,
+      z.auto.square ∙ a.auto.square ∙ l.invariant.1,
       k,
       simp length-set l.invariant.3,
       l.invariant.4,
-      settle_turn g.n l.j g.ds.now g.square.now l.square a.new.square z.new.0 l.rhs a.new.rhs l.ldiag _ z.result h p.ds_len l.invariant.2 k l.invariant.3
+      settle_turn g.n l.j g.ds.now g.square.now l.square a.new.square z.new.square l.rhs a.new.rhs l.ldiag _ z.result h p.ds_len l.invariant.2 k l.invariant.3
           (rw p.saved_value) l.invariant.5 a.ensures z.ensures,
     )
 

@@ -1,4 +1,3 @@
--- both rows done up to place i
 use Prim.Native.Nat.{◌+◌, ◌-◌, ◌≤◌, ◌<◌, ℕ}
 use mathlib.Core.Path.{◌≡◌, refl}
 use native.Mathlib.Omega.{arith}
@@ -10,14 +9,7 @@ use Rattle.eliminate.specs.Eliminate.{turned, left, turned_all, left_all}
 use Rattle.leaves.proofs.Folds.{front, front_turn, front_end}
 use Rattle.eliminate.proofs.Rotations.{turned-length, left-length, turned_at_lem, left_at, front_at}
 use Rattle.eliminate.proofs.eliminate.turn_rest.Goals as goal
-
-record Turning (g : Rotation) (col₀ l₀ col l : List Float) (i : ℕ) : Type 0 where
-  same : length col₀ ≡ length l₀
-  short : i ≤ length col₀
-  col_long : length col ≡ length col₀
-  l_long : length l ≡ length l₀
-  col_done : col ≡ front i (turned_all g col₀ l₀) col₀
-  l_done : l ≡ front i (left_all g col₀ l₀) l₀
+use Rattle.eliminate.proofs.eliminate.turn_rest.Invariants.{Turning}
 
 turn : (g : Rotation) (col₀ l₀ col l : List Float) (i : ℕ) → i < length col → Turning g col₀ l₀ col l i
     → Turning g col₀ l₀ (set col i (turned g (get_or col i nan) (get_or l i nan))) (set l i (left g (get_or col i nan) (get_or l i nan))) (i + 1)
@@ -57,4 +49,4 @@ returns c =
     let a = turned-length g.g g.col.now g.l.now same in
     let b = left-length g.g g.col.now g.l.now same in
     let e = c.loop-i-test.false in
-    record { col_after = front_end (turned_all g.g g.col.now g.l.now) g.col.now l.col l.i a (omega arith) i.col_done; l_after = (front_end (left_all g.g g.col.now g.l.now) g.l.now l.l l.i b (omega arith) i.l_done, ) }
+    record { col_after = front_end (turned_all g.g g.col.now g.l.now) g.col.now l.col l.i a (omega arith) i.col_done; l_after = front_end (left_all g.g g.col.now g.l.now) g.l.now l.l l.i b (omega arith) i.l_done }

@@ -1,7 +1,6 @@
 use Prim.Native.Nat.{◌+◌, ◌-◌}
 use mathlib.Core.Path.{◌≡◌, refl, sym, ap, ◌∙◌}
 use mathlib.Core.List.{List, ◌++◌}
-use mathlib.Core.Logic.{⊎_elim}
 use native.Mathlib.Omega.{arith}
 use borrow.Author.Rules.{rules}
 use borrow.Rule.Slice.PartMut.{mid_len}
@@ -12,6 +11,7 @@ use Rattle.frozen.proofs.Turns.{next_below}
 use Rattle.frozen.proofs.Runs.{one_less}
 use Rattle.frozen.proofs.Blocks.{column_counted, column_skipped, column_copied, column_passed, columns-end}
 use Rattle.frozen.proofs.columns.copy_free.Goals as goal
+use Rattle.frozen.proofs.columns.copy_free.Goals.{then-x-lt32768, else-x-lt32768}
 
 pub loop-left-init : goal.loop-left-init
 loop-left-init c = (search rules, search rules, search rules, refl, refl)
@@ -72,31 +72,29 @@ loop-left-preserved c =
     let b = next_below l.x l.invariant.0 in
     let h = one_less l.left g.m t in
     rw c.next_of-x.ensures
-    (⊎_elim
-    (λ w.
-    let k = column_counted g.m l.left l.x t w.0.taken in
-    let y = w.3.last.1.0 in
+    (elim c.if-x-lt32768.branch [
+      | then-x-lt32768 w ↦ let k = column_counted g.m l.left l.x t w.if-x-lt32768.true in
+    let y = w.copy_of.new.y in
     let e : l.a + g.m - l.a ≡ g.m = omega arith in
-    let d : y ≡ take g.m (drop l.a g.src.now) = rw e at w.3.ensures in
-    let z : length y ≡ g.m = ap length w.3.ensures ∙ (mid_len l.a (l.a + g.m) g.src.now (search rules) ∙ e) in
+    let d : y ≡ take g.m (drop l.a g.src.now) = rw e at w.copy_of.ensures in
+    let z : length y ≡ g.m = ap length w.copy_of.ensures ∙ (mid_len l.a (l.a + g.m) g.src.now (search rules) ∙ e) in
     let p = lent l.b (l.b + g.m) y l.dst (omega arith) in
-    rw (w.6, w.7) (
+    rw (w.dst-is, w.b-is) (
       b,
       search rules,
       omega arith,
       ap length p ∙ (splice_length l.b (l.b + g.m) y l.dst (omega arith) (search rules) ∙ l.invariant.3),
-      column_copied g.m l.left l.x l.a l.b g.src.now l.dst y _ t w.0.taken (search rules) z d ∙ l.invariant.4,
-    ))
-    (λ w.
-    let k = column_skipped g.m l.left l.x t w.0.left in
-    rw (w.1, w.2) (
+      column_copied g.m l.left l.x l.a l.b g.src.now l.dst y _ t w.if-x-lt32768.true (search rules) z d ∙ l.invariant.4,
+    )
+      | else-x-lt32768 w ↦ let k = column_skipped g.m l.left l.x t w.if-x-lt32768.false in
+    rw (w.dst-is, w.b-is) (
       b,
       search rules,
       omega arith,
       l.invariant.3,
-      ap (λ (s : List Float). take l.b l.dst ++ s) (column_passed g.m l.left l.x l.a g.src.now t w.0.left) ∙ l.invariant.4,
-    ))
-    c.if-x-lt32768.branch)
+      ap (λ (s : List Float). take l.b l.dst ++ s) (column_passed g.m l.left l.x l.a g.src.now t w.if-x-lt32768.false) ∙ l.invariant.4,
+    )
+    ])
 
 pub returns : goal.returns
 returns c =

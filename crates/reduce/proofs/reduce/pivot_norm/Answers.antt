@@ -25,7 +25,7 @@ returns-then-j-eq0 c =
     let w = bench-wide g.m g.n g.bench.now in
     let seen = first_seen r (omega (arith, w, p.j_lt_n)) (p.diag_value z) (p.seen_value z) in
     let there = ap (λ (q : Reduction). either g.seen (ranges (get_or q.cols 0 []))) (sym x.ensures.order_after) in
-    rw z (x.ensures.value, (seen ∙ there, x.ensures.order_after))
+    rw z (record { norm_value = x.ensures.value; seen_value_2 = seen ∙ there; order_after = x.ensures.order_after })
 
 pub pivot-requires : goal.pivot-requires
 pivot-requires c =

@@ -23,4 +23,4 @@ returns c =
     let long = columns-length g.m (suc g.n) g.bench.now in
     let x = c.reflect_column in
     let y = c.renew in
-    record { steps = λ o. later_law g.n g.j g.k g.axis.now b _ _ _ _ _ o c.requires.k_lt_n long x.ensures y.ensures.work_after; sees = (λ o. later-measured g.n g.j g.k g.axis.now b _ _ _ o g.seen c.requires.k_lt_n long x.ensures y.ensures.value, ) }
+    record { steps = λ o. later_law g.n g.j g.k g.axis.now b _ _ _ _ _ o c.requires.k_lt_n long x.ensures y.ensures.work_after; sees = λ o. later-measured g.n g.j g.k g.axis.now b _ _ _ o g.seen c.requires.k_lt_n long x.ensures y.ensures.value }

@@ -1,22 +1,22 @@
 -- column k is one of n + 1, and a bench has at most 17 columns of 128
-use Prim.Native.Nat.{◌+◌, ◌*◌, ◌≤◌, suc}
+use Prim.Native.Nat.{ℕ, ◌+◌, ◌*◌, ◌≤◌, suc}
 use mathlib.Core.Path.{refl}
 use native.Mathlib.Omega.{arith}
 use native.Mathlib.Nat.{mul-le-mul}
 use Rattle.leaves.proofs.Triangles.{column_fits}
 use Rattle.reduce.proofs.reflect.row_at.Goals as goal
 
-within : (c : tie.Start) → c.args.k * c.args.m + c.args.m ≤ suc c.args.n * c.args.m
-within c = column_fits c.args.k (suc c.args.n) c.args.m (omega arith)
+within : (k n m : ℕ) → k ≤ n → k * m + m ≤ suc n * m
+within k n m h = column_fits k (suc n) m (omega arith)
 
-small : (c : tie.Start) → suc c.args.n * c.args.m ≤ 17 * 128
-small c = let h : suc c.args.n ≤ 17 = omega arith in mul-le-mul h c.requires.0
+small : (n m : ℕ) → n ≤ 16 → m ≤ 128 → suc n * m ≤ 17 * 128
+small n m h k = let w : suc n ≤ 17 = omega arith in mul-le-mul w k
 
 pub overflow_mul-result : goal.overflow_mul-result
-overflow_mul-result c = omega (arith, within c, small c)
+overflow_mul-result c = omega (arith, within c.args.k c.args.n c.args.m (omega arith), small c.args.n c.args.m (omega arith) (omega arith))
 
 pub overflow_add-result : goal.overflow_add-result
-overflow_add-result c = omega (arith, within c, small c)
+overflow_add-result c = omega (arith, within c.args.k c.args.n c.args.m (omega arith), small c.args.n c.args.m (omega arith) (omega arith))
 
 pub returns : goal.returns
-returns c = record { value = refl; i_bound = omega (arith, within c) }
+returns c = record { value = refl; i_bound = omega (arith, within c.args.k c.args.n c.args.m (omega arith)) }
