@@ -1,0 +1,28 @@
+use Prim.Native.Nat.{◌≤◌}
+use native.Mathlib.Omega.{arith}
+use lib.ListN.{length-take}
+use Rattle.factor.proofs.Solves.{rank-fits, zero_law}
+use Rattle.factor.proofs.solve.zero_solve.Goals as goal
+
+pub clear_from-requires : goal.clear_from-requires
+clear_from-requires c =
+    let g = c.args in
+    let h : c.rank_of-full.result ≤ g.n = rank-fits g.m g.n _ _ g.square.now c.least-top.ensures c.rank_of-full.ensures in
+    omega arith
+
+pub slice_bounds-solve_upper-end : goal.slice_bounds-solve_upper-end
+slice_bounds-solve_upper-end c =
+    let g = c.args in
+    let h : c.rank_of-full.result ≤ g.n = rank-fits g.m g.n _ _ g.square.now c.least-top.ensures c.rank_of-full.ensures in
+    omega (arith, c.clear_from.auto.w)
+
+pub slice_bounds-solve_upper-end-2 : goal.slice_bounds-solve_upper-end-2
+slice_bounds-solve_upper-end-2 c =
+    let g = c.args in
+    let h : c.rank_of-full.result ≤ g.n = rank-fits g.m g.n _ _ g.square.now c.least-top.ensures c.rank_of-full.ensures in
+    simp length-take (omega (arith, c.clear_from.auto.w))
+
+pub returns : goal.returns
+returns c =
+    let g = c.args in
+    zero_law g.m g.n _ _ g.square.now c.least-top.ensures c.rank_of-full.ensures g.w.now _ _ c.requires.square c.requires.w_len c.clear_from.ensures c.solve_upper.auto.x c.solve_upper.ensures
