@@ -206,9 +206,9 @@ demand_2_norm = norm_is_enorm
 -- The search is MINPACK-1's LMPAR, with that ENORM and document 01's dwarf: where m ≥ n, a search that answers has LMPAR's x and par, and as many trials
 -- as LMPAR has calls of QRSOLV.
 pub demand_2_search : (unset : Float) (st : State) (order : List ℕ) (diag : List Float) (radius lambda : Float) (store out : List Float) (a : Flagged)
-    → search_call st order diag radius lambda (store out).reply ≡ answered a → st.n ≤ st.m
+    → (search_call st order diag radius lambda store out).reply ≡ answered a → st.n ≤ st.m
     → lmpar (minpack_enorm unset) dwarf (lent_of st order diag radius store) lambda
-    ≡ record { x = take st.n (search_call st order diag radius lambda (store out).out); par = a.0.lambda; qrsolvs = a.0.trials }
+    ≡ record { x = take st.n (search_call st order diag radius lambda store out).out; par = a.0.lambda; qrsolvs = a.0.trials }
 demand_2_search = search-answers_as_lmpar
 
 -- After a factoring it is so for m < n too, straight after it or after any calls since.
@@ -216,9 +216,9 @@ pub demand_2_search_factored : (m n : ℕ) (jacobian residuals store : List Floa
     → (let f = factor_call m n jacobian residuals store order bench in f.reply ≡ answered seen → (cs : List Call)
     → (let x = run perform f.order cs f.state f.store in
     (unset : Float) (diag : List Float) (radius lambda : Float) (out : List Float) (a : Flagged)
-    → search_call x.0 f.order diag radius lambda (x.1 out).reply ≡ answered a
+    → (search_call x.0 f.order diag radius lambda x.1 out).reply ≡ answered a
     → lmpar (minpack_enorm unset) dwarf (lent_of x.0 f.order diag radius x.1) lambda
-    ≡ record { x = take x.0.n (search_call x.0 f.order diag radius lambda (x.1 out).out); par = a.0.lambda; qrsolvs = a.0.trials }))
+    ≡ record { x = take x.0.n (search_call x.0 f.order diag radius lambda x.1 out).out; par = a.0.lambda; qrsolvs = a.0.trials }))
 demand_2_search_factored = factored-answers_as_lmpar
 
 -- ==== Demand 3. "Factor once, lend the same store and order list each time, pass each returned state on, and let nobody else write those two."
@@ -267,7 +267,7 @@ pub demand_3_never_changed : (order : List ℕ) (cs : List Call) (st : State) (s
 demand_3_never_changed = never_changed
 
 -- An answered search, in any state, with any store and order list.
-module _ (st : State) (order : List ℕ) (diag : List Float) (radius lambda : Float) (store out : List Float) (a : Flagged) (h : search_call st order diag radius lambda (store out).reply ≡ answered a) where
+module _ (st : State) (order : List ℕ) (diag : List Float) (radius lambda : Float) (store out : List Float) (a : Flagged) (h : (search_call st order diag radius lambda store out).reply ≡ answered a) where
   abbrev asked : Problem
   asked = problem_of st order diag radius (load st.n store)
 

@@ -103,22 +103,22 @@ use Rattle.demands.specs.Marked.{MarkedOutcome, outcome_of, of_marked_ended, of_
 use Rattle.demands.specs.Putting.{StepAnswer, pack, packed, perform_step}
 
 pub calls_solve_with_zero_diagonal_is : (κs : Lfts 3) (a : ArgsD solve-with-zero-diagonal-signature κs) (r : Told) (s : AtExit (ended_of 3 solve-with-zero-diagonal-kinds.ps solve-with-zero-diagonal-kinds.r) κs) → solve-with-zero-diagonal.Post κs a r s
-    → outcome_of (of_base (basic.done (done_of r.answer))) r.state s.1.0.now s.1.1.1.0.now ≡ perform_marked (base (basic.zero_solve (a .1 .1 .1 .0 .now))) (a .0) (a .1 .1 .0 .now) (a .1 .0 .now)
+    → outcome_of (of_base (basic.done (done_of r.answer))) r.state s.1.0.now s.1.1.1.0.now ≡ perform_marked (base (basic.zero_solve (a.1.1.1.0.now))) (a.0) (a.1.1.0.now) (a.1.0.now)
 unfolding perform_marked
 calls_solve_with_zero_diagonal_is κs a r s p = ap (λ (e : calls.MarkedEnded (Unit {0})). of_marked_ended (λ r. of_base (basic.done r)) e) p
 
 pub calls_solve_with_diagonal_is : (κs : Lfts 4) (a : ArgsD solve-with-diagonal-signature κs) (r : Told) (s : AtExit (ended_of 4 solve-with-diagonal-kinds.ps solve-with-diagonal-kinds.r) κs) → solve-with-diagonal.Post κs a r s
-    → outcome_of (of_base (basic.done (done_of r.answer))) r.state s.1.0.now s.1.1.1.1.0.now ≡ perform_marked (base (basic.damped_solve (a .1 .1 .1 .0 .now) (a .1 .1 .1 .1 .0 .now))) (a .0) (a .1 .1 .0 .now) (a .1 .0 .now)
+    → outcome_of (of_base (basic.done (done_of r.answer))) r.state s.1.0.now s.1.1.1.1.0.now ≡ perform_marked (base (basic.damped_solve (a.1.1.1.0.now) (a.1.1.1.1.0.now))) (a.0) (a.1.1.0.now) (a.1.0.now)
 unfolding perform_marked
 calls_solve_with_diagonal_is κs a r s p = ap (λ (e : calls.MarkedEnded (Unit {0})). of_marked_ended (λ r. of_base (basic.done r)) e) p
 
 pub calls_solve_is : (κs : Lfts 4) (a : ArgsD solve-signature κs) (r : Told) (s : AtExit (ended_of 4 solve-kinds.ps solve-kinds.r) κs) → solve.Post κs a r s
-    → outcome_of (of_base (basic.done (done_of r.answer))) r.state s.1.0.now s.1.1.1.1.0.now ≡ perform_marked (base (basic.held_solve (a .1 .1 .1 .0 .now) (a .1 .1 .1 .1 .0 .now))) (a .0) (a .1 .1 .0 .now) (a .1 .0 .now)
+    → outcome_of (of_base (basic.done (done_of r.answer))) r.state s.1.0.now s.1.1.1.1.0.now ≡ perform_marked (base (basic.held_solve (a.1.1.1.0.now) (a.1.1.1.1.0.now))) (a.0) (a.1.1.0.now) (a.1.0.now)
 unfolding perform_marked
 calls_solve_is κs a r s p = ap (λ (e : calls.MarkedEnded (Unit {0})). of_marked_ended (λ r. of_base (basic.done r)) e) p
 
 pub calls_mul_qt_b_is : (κs : Lfts 2) (a : ArgsD mul-qt-b-signature κs) (r : Told) (s : AtExit (ended_of 2 mul-qt-b-kinds.ps mul-qt-b-kinds.r) κs) (order : List ℕ) → mul-qt-b.Post κs a r s
-    → outcome_of (of_base (basic.done (done_of r.answer))) r.state s.1.0.now s.1.1.0.now ≡ perform_marked (base (basic.held_product (a .1 .1 .0 .now))) (a .0) order (a .1 .0 .now)
+    → outcome_of (of_base (basic.done (done_of r.answer))) r.state s.1.0.now s.1.1.0.now ≡ perform_marked (base (basic.held_product (a.1.1.0.now))) (a.0) order (a.1.0.now)
 unfolding perform_marked
 calls_mul_qt_b_is κs a r s order p = ap (λ (e : calls.MarkedEnded (Unit {0})). of_marked_ended (λ r. of_base (basic.done r)) e) p
 
@@ -130,27 +130,27 @@ abbrev pub shown_by : Read → AnyAnswer × List Float
 shown_by e = (of_base (basic.done e.reply), e.out)
 
 pub calls_solve_read_is : (κs : Lfts 4) (a : ArgsD solve-read-signature κs) (r : Done) (s : AtExit (ended_of 4 solve-read-kinds.ps solve-read-kinds.r) κs) → solve-read.Post κs a r s
-    → (of_base (basic.done (done_of r)), s.1.1.1.1.0.now) ≡ shown (perform_marked (base (basic.held_solve (a .1 .1 .1 .0 .now) (a .1 .1 .1 .1 .0 .now))) (a .0) (a .1 .1 .0 .now) (a .1 .0 .now))
+    → (of_base (basic.done (done_of r)), s.1.1.1.1.0.now) ≡ shown (perform_marked (base (basic.held_solve (a.1.1.1.0.now) (a.1.1.1.1.0.now))) (a.0) (a.1.1.0.now) (a.1.0.now))
 unfolding perform_marked
 calls_solve_read_is κs a r s p = ap shown_by p
 
 pub calls_mul_read_is : (κs : Lfts 2) (a : ArgsD mul-read-signature κs) (r : Done) (s : AtExit (ended_of 2 mul-read-kinds.ps mul-read-kinds.r) κs) (order : List ℕ) → mul-read.Post κs a r s
-    → (of_base (basic.done (done_of r)), s.1.1.0.now) ≡ shown (perform_marked (base (basic.held_product (a .1 .1 .0 .now))) (a .0) order (a .1 .0 .now))
+    → (of_base (basic.done (done_of r)), s.1.1.0.now) ≡ shown (perform_marked (base (basic.held_product (a.1.1.0.now))) (a.0) order (a.1.0.now))
 unfolding perform_marked
 calls_mul_read_is κs a r s order p = ap shown_by p
 
 -- and through a reader: it is made from a slice and a state, and asks that state
 pub reader_new_is : (κs : Lfts 1) (a : Args reader-new.signature κs) (r : CholeskyFactor) (s : AtExit reader-new.ended κs) → Says-new κs a r s
-    → (r.square ≡ a .0) × (r.state ≡ a .1 .0)
+    → (r.square ≡ a.0) × (r.state ≡ a.1.0)
 reader_new_is κs a r s p = (ap (λ (f : CholeskyFactor). f.square) p, ap (λ (f : CholeskyFactor). f.state) p)
 
 pub reader_solve_is : (κs : Lfts 4) (a : Args reader-solve.signature κs) (r : Done) (s : AtExit reader-solve.ended κs) → Says-solve κs a r s
-    → (of_base (basic.done (done_of r)), s.1.1.1.0.now) ≡ shown (perform_marked (base (basic.held_solve (a .1 .1 .0 .now) (a .1 .1 .1 .0 .now))) (a .0 .state) (a .1 .0 .now) (a .0 .square .now))
+    → (of_base (basic.done (done_of r)), s.1.1.1.0.now) ≡ shown (perform_marked (base (basic.held_solve (a.1.1.0.now) (a.1.1.1.0.now))) (a.0.state) (a.1.0.now) (a.0.square.now))
 unfolding perform_marked
 reader_solve_is κs a r s p = ap shown_by p
 
 pub reader_mul_qt_b_is : (κs : Lfts 2) (a : Args reader-mul-qt-b.signature κs) (r : Done) (s : AtExit reader-mul-qt-b.ended κs) (order : List ℕ) → Says-mul-qt-b κs a r s
-    → (of_base (basic.done (done_of r)), s.1.0.now) ≡ shown (perform_marked (base (basic.held_product (a .1 .0 .now))) (a .0 .state) order (a .0 .square .now))
+    → (of_base (basic.done (done_of r)), s.1.0.now) ≡ shown (perform_marked (base (basic.held_product (a.1.0.now))) (a.0.state) order (a.0.square.now))
 unfolding perform_marked
 reader_mul_qt_b_is κs a r s order p = ap shown_by p
 
@@ -158,70 +158,70 @@ reader_mul_qt_b_is κs a r s order p = ap shown_by p
 -- model what the source's `ensures` says entails the same.
 module _ {M : Type 1} {𝓤 : Ura M} (𝓛 : Logic 𝓤) (mem : Memory → SProp 𝓤) (run : Routine → Fun 𝓤) where
   pub reader_new_ensures : (κs : Lfts 1) (a : Args reader-new.signature κs) (r : CholeskyFactor) (s : AtExit reader-new.ended κs)
-      → ent 𝓤 (reader-new.clauses 𝓛 mem run κs a .ensures tt r s) (fact 𝓤 ((r.square ≡ a .0) × (r.state ≡ a .1 .0)))
+      → ent 𝓤 (reader-new.clauses 𝓛 mem run κs a.ensures tt r s) (fact 𝓤 ((r.square ≡ a.0) × (r.state ≡ a.1.0)))
   reader_new_ensures κs a r s = fact_mono 𝓤 (Says-new κs a r s) _ (reader_new_is κs a r s)
 
   pub reader_solve_ensures : (κs : Lfts 4) (a : Args reader-solve.signature κs) (r : Done) (s : AtExit reader-solve.ended κs)
-      → ent 𝓤 (reader-solve.clauses 𝓛 mem run κs a .ensures tt r s)
-      (fact 𝓤 ((of_base (basic.done (done_of r)), s.1.1.1.0.now) ≡ shown (perform_marked (base (basic.held_solve (a .1 .1 .0 .now) (a .1 .1 .1 .0 .now))) (a .0 .state) (a .1 .0 .now) (a .0 .square .now))))
+      → ent 𝓤 (reader-solve.clauses 𝓛 mem run κs a.ensures tt r s)
+      (fact 𝓤 ((of_base (basic.done (done_of r)), s.1.1.1.0.now) ≡ shown (perform_marked (base (basic.held_solve (a.1.1.0.now) (a.1.1.1.0.now))) (a.0.state) (a.1.0.now) (a.0.square.now))))
   reader_solve_ensures κs a r s = fact_mono 𝓤 (Says-solve κs a r s) _ (reader_solve_is κs a r s)
 
   pub reader_mul_qt_b_ensures : (κs : Lfts 2) (a : Args reader-mul-qt-b.signature κs) (r : Done) (s : AtExit reader-mul-qt-b.ended κs) (order : List ℕ)
-      → ent 𝓤 (reader-mul-qt-b.clauses 𝓛 mem run κs a .ensures tt r s)
-      (fact 𝓤 ((of_base (basic.done (done_of r)), s.1.0.now) ≡ shown (perform_marked (base (basic.held_product (a .1 .0 .now))) (a .0 .state) order (a .0 .square .now))))
+      → ent 𝓤 (reader-mul-qt-b.clauses 𝓛 mem run κs a.ensures tt r s)
+      (fact 𝓤 ((of_base (basic.done (done_of r)), s.1.0.now) ≡ shown (perform_marked (base (basic.held_product (a.1.0.now))) (a.0.state) order (a.0.square.now))))
   reader_mul_qt_b_ensures κs a r s order = fact_mono 𝓤 (Says-mul-qt-b κs a r s) _ (reader_mul_qt_b_is κs a r s order)
 
 pub reader_solve_plain_is : (κs : Lfts 4) (a : ArgsD reader-solve-plain-signature κs) (r : Done) (s : AtExit (ended_of 4 reader-solve-plain-kinds.ps reader-solve-plain-kinds.r) κs) → reader-solve-plain.Post κs a r s
-    → (of_base (basic.done (done_of r)), s.1.1.1.1.0.now) ≡ shown (perform_marked (base (basic.held_solve (a .1 .1 .1 .0 .now) (a .1 .1 .1 .1 .0 .now))) (a .1 .0) (a .1 .1 .0 .now) (a .0 .now))
+    → (of_base (basic.done (done_of r)), s.1.1.1.1.0.now) ≡ shown (perform_marked (base (basic.held_solve (a.1.1.1.0.now) (a.1.1.1.1.0.now))) (a.1.0) (a.1.1.0.now) (a.0.now))
 unfolding perform_marked
 reader_solve_plain_is κs a r s p = ap shown_by p
 
 pub reader_mul_plain_is : (κs : Lfts 2) (a : ArgsD reader-mul-plain-signature κs) (r : Done) (s : AtExit (ended_of 2 reader-mul-plain-kinds.ps reader-mul-plain-kinds.r) κs) (order : List ℕ) → reader-mul-plain.Post κs a r s
-    → (of_base (basic.done (done_of r)), s.1.1.0.now) ≡ shown (perform_marked (base (basic.held_product (a .1 .1 .0 .now))) (a .1 .0) order (a .0 .now))
+    → (of_base (basic.done (done_of r)), s.1.1.0.now) ≡ shown (perform_marked (base (basic.held_product (a.1.1.0.now))) (a.1.0) order (a.0.now))
 unfolding perform_marked
 reader_mul_plain_is κs a r s order p = ap shown_by p
 
 -- ---- gradient, the question beside it, norm of Jx, scaling, determined, rank
 pub calls_max_a_t_b_scaled_is : (κs : Lfts 2) (a : ArgsD max-a-t-b-scaled-signature κs) (r : GradientTold) (s : AtExit (ended_of 2 max-a-t-b-scaled-kinds.ps max-a-t-b-scaled-kinds.r) κs) → max-a-t-b-scaled.Post κs a r s
-    → outcome_of (of_base (basic.number (gradient_of r.answer))) r.state s.1.0.now [] ≡ perform_marked (base (basic.gradient (a .1 .1 .1 .0))) (a .0) (a .1 .1 .0 .now) (a .1 .0 .now)
+    → outcome_of (of_base (basic.number (gradient_of r.answer))) r.state s.1.0.now [] ≡ perform_marked (base (basic.gradient (a.1.1.1.0))) (a.0) (a.1.1.0.now) (a.1.0.now)
 unfolding perform_marked
 calls_max_a_t_b_scaled_is κs a r s p = ap (λ (e : calls.MarkedTold Float). of_marked_told (λ r. of_base (basic.number r)) e) p
 
 pub calls_above_limit_is : (κs : Lfts 2) (a : ArgsD above-limit-signature κs) (r : TruthTold) (s : AtExit (ended_of 2 above-limit-kinds.ps above-limit-kinds.r) κs) → above-limit.Post κs a r s
-    → outcome_of (of_base (basic.truth (truth_of r.answer))) r.state s.1.0.now [] ≡ perform_marked (base (basic.above (a .1 .1 .1 .0) (a .1 .1 .1 .1 .0))) (a .0) (a .1 .1 .0 .now) (a .1 .0 .now)
+    → outcome_of (of_base (basic.truth (truth_of r.answer))) r.state s.1.0.now [] ≡ perform_marked (base (basic.above (a.1.1.1.0) (a.1.1.1.1.0))) (a.0) (a.1.1.0.now) (a.1.0.now)
 unfolding perform_marked
 calls_above_limit_is κs a r s p = ap (λ (e : calls.MarkedTold Bool). of_marked_told (λ r. of_base (basic.truth r)) e) p
 
 pub calls_a_x_norm_is : (κs : Lfts 3) (a : ArgsD a-x-norm-signature κs) (r : MeasuredTold) (s : AtExit (ended_of 3 a-x-norm-kinds.ps a-x-norm-kinds.r) κs) → a-x-norm.Post κs a r s
-    → outcome_of (of_base (basic.ranged (measured_of r.answer))) r.state s.1.0.now [] ≡ perform_marked (base (basic.jx_norm (a .1 .1 .1 .0 .now))) (a .0) (a .1 .1 .0 .now) (a .1 .0 .now)
+    → outcome_of (of_base (basic.ranged (measured_of r.answer))) r.state s.1.0.now [] ≡ perform_marked (base (basic.jx_norm (a.1.1.1.0.now))) (a.0) (a.1.1.0.now) (a.1.0.now)
 unfolding perform_marked
 calls_a_x_norm_is κs a r s p = ap (λ (e : calls.MarkedTold (Float × Ranges)). of_marked_told (λ r. of_base (basic.ranged r)) e) p
 
 pub calls_update_diag_is : (κs : Lfts 3) (a : ArgsD update-diag-signature κs) (r : ScalingTold) (s : AtExit (ended_of 3 update-diag-kinds.ps update-diag-kinds.r) κs) (order : List ℕ) → update-diag.Post κs a r s
-    → outcome_of (of_base (basic.scaled (scaling_of r.answer))) r.state s.1.0.now s.1.1.1.0.now ≡ perform_marked (base (basic.scaling (a .1 .1 .0) (a .1 .1 .1 .0 .now) (a .1 .1 .1 .1 .0 .now) (a .1 .1 .1 .1 .1 .0))) (a .0) order (a .1 .0 .now)
+    → outcome_of (of_base (basic.scaled (scaling_of r.answer))) r.state s.1.0.now s.1.1.1.0.now ≡ perform_marked (base (basic.scaling (a.1.1.0) (a.1.1.1.0.now) (a.1.1.1.1.0.now) (a.1.1.1.1.1.0))) (a.0) order (a.1.0.now)
 unfolding perform_marked
 calls_update_diag_is κs a r s order p = ap (λ (e : calls.MarkedEnded Scaled). of_marked_ended (λ r. of_base (basic.scaled r)) e) p
 
 pub calls_determined_is : (κs : Lfts 1) (a : ArgsD determined-signature κs) (r : PlaceTold) (s : AtExit (ended_of 1 determined-kinds.ps determined-kinds.r) κs) (order : List ℕ) → determined.Post κs a r s
-    → outcome_of (of_base (basic.count (place_of r.answer))) r.state s.1.0.now [] ≡ perform_marked (base basic.determined) (a .0) order (a .1 .0 .now)
+    → outcome_of (of_base (basic.count (place_of r.answer))) r.state s.1.0.now [] ≡ perform_marked (base basic.determined) (a.0) order (a.1.0.now)
 unfolding perform_marked
 calls_determined_is κs a r s order p = ap (λ (e : calls.MarkedTold ℕ). of_marked_told (λ r. of_base (basic.count r)) e) p
 
 pub calls_is_non_singular_is : (κs : Lfts 1) (a : ArgsD is-non-singular-signature κs) (r : TruthTold) (s : AtExit (ended_of 1 is-non-singular-kinds.ps is-non-singular-kinds.r) κs) (order : List ℕ) → is-non-singular.Post κs a r s
-    → outcome_of (of_base (basic.truth (truth_of r.answer))) r.state s.1.0.now [] ≡ perform_marked (base basic.non_singular) (a .0) order (a .1 .0 .now)
+    → outcome_of (of_base (basic.truth (truth_of r.answer))) r.state s.1.0.now [] ≡ perform_marked (base basic.non_singular) (a.0) order (a.1.0.now)
 unfolding perform_marked
 calls_is_non_singular_is κs a r s order p = ap (λ (e : calls.MarkedTold Bool). of_marked_told (λ r. of_base (basic.truth r)) e) p
 
 pub calls_determine_lambda_and_parameter_update_is : (κs : Lfts 4) (a : ArgsD search-signature κs) (r : SearchTold) (s : AtExit (ended_of 4 search-kinds.ps search-kinds.r) κs) → search-code.Post κs a r s
     → outcome_of (found (found_of r.answer)) r.state s.1.0.now s.1.1.1.1.1.1.0.now
-    ≡ perform_marked (search (a .1 .1 .1 .0 .now) (a .1 .1 .1 .1 .0) (a .1 .1 .1 .1 .1 .0) (a .1 .1 .1 .1 .1 .1 .0 .now)) (a .0) (a .1 .1 .0 .now) (a .1 .0 .now)
+    ≡ perform_marked (search (a.1.1.1.0.now) (a.1.1.1.1.0) (a.1.1.1.1.1.0) (a.1.1.1.1.1.1.0.now)) (a.0) (a.1.1.0.now) (a.1.0.now)
 unfolding perform_marked
 calls_determine_lambda_and_parameter_update_is κs a r s p = ap (λ (e : calls.MarkedEnded Flagged). of_marked_ended (λ r. found r) e) p
 
 -- ---- factoring
 pub calls_pivoted_qr_is : (κs : Lfts 5) (a : ArgsD pivoted-qr-signature κs) (r : FactorTold) (s : AtExit (ended_of 5 pivoted-qr-kinds.ps pivoted-qr-kinds.r) κs) → pivoted-qr.Post κs a r s
     → marked_factored (ranged_of r.answer) r.state s.1.1.1.1.1.0.now s.1.1.1.1.1.1.0.now s.1.1.1.1.1.1.1.0.now
-    ≡ marked_factoring (a .0) (a .1 .0) (a .1 .1 .0) (a .1 .1 .1 .0 .now) (a .1 .1 .1 .1 .0 .now) (a .1 .1 .1 .1 .1 .0 .now) (a .1 .1 .1 .1 .1 .1 .0 .now) (a .1 .1 .1 .1 .1 .1 .1 .0 .now)
+    ≡ marked_factoring (a.0) (a.1.0) (a.1.1.0) (a.1.1.1.0.now) (a.1.1.1.1.0.now) (a.1.1.1.1.1.0.now) (a.1.1.1.1.1.1.0.now) (a.1.1.1.1.1.1.1.0.now)
 calls_pivoted_qr_is κs a r s p = p
 
 -- ---- packing, which takes a state and is a step of a history that leaves the store; and unpacking, which begins one
@@ -230,12 +230,12 @@ packed_as e s = record { answer = packed e.reply e.numbers e.places; state = who
 
 pub pack_is : (κs : Lfts 4) (a : ArgsD pack-signature κs) (r : Told) (s : AtExit (ended_of 4 pack-kinds.ps pack-kinds.r) κs) → pack-code.Post κs a r s
     → (let left = put_away (done_of r.answer) r.state s.1.1.1.0.now s.1.1.1.1.0.now in
-    (left ≡ pack_call (a .0) (a .1 .0 .now) (a .1 .1 .0 .now) (a .1 .1 .1 .0 .now) (a .1 .1 .1 .1 .0 .now))
-    × (packed_as left (a .1 .0 .now) ≡ perform_step (a .0 .marks) (pack (a .1 .1 .1 .0 .now) (a .1 .1 .1 .1 .0 .now)) (whole (a .0)) (a .1 .1 .0 .now) (a .1 .0 .now)))
+    (left ≡ pack_call (a.0) (a.1.0.now) (a.1.1.0.now) (a.1.1.1.0.now) (a.1.1.1.1.0.now))
+    × (packed_as left (a.1.0.now) ≡ perform_step (a.0.marks) (pack (a.1.1.1.0.now) (a.1.1.1.1.0.now)) (whole (a.0)) (a.1.1.0.now) (a.1.0.now)))
 unfolding perform_step
-pack_is κs a r s p = (p, ap (λ (e : PutAway). packed_as e (a .1 .0 .now)) p)
+pack_is κs a r s p = (p, ap (λ (e : PutAway). packed_as e (a.1.0.now)) p)
 
 pub unpack_is : (κs : Lfts 4) (a : ArgsD unpack-signature κs) (r : Told) (s : AtExit (ended_of 4 unpack-kinds.ps unpack-kinds.r) κs) → unpack-code.Post κs a r s
     → put_away (done_of r.answer) r.state s.1.1.1.0.now s.1.1.1.1.0.now
-    ≡ unpack_call (a .0) (a .1 .0 .now) (a .1 .1 .0 .now) (a .1 .1 .1 .0 .now) (a .1 .1 .1 .1 .0 .now)
+    ≡ unpack_call (a.0) (a.1.0.now) (a.1.1.0.now) (a.1.1.1.0.now) (a.1.1.1.1.0.now)
 unpack_is κs a r s p = p

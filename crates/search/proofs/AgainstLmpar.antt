@@ -50,12 +50,12 @@ search_is_lmpar unset p initial a step wide pivots rhs tall permuted finite abov
     (enorm_is_norm unset) a step finite above e
 
 pub search-answers_as_lmpar : (unset : Float) (st : State) (order : List ℕ) (diag : List Float) (radius lambda : Float) (store out : List Float) (a : Flagged)
-    → search_call st order diag radius lambda (store out).reply ≡ answered a → st.n ≤ st.m
+    → (search_call st order diag radius lambda store out).reply ≡ answered a → st.n ≤ st.m
     → lmpar (minpack_enorm unset) dwarf (lent_of st order diag radius store) lambda
-    ≡ record { x = take st.n (search_call st order diag radius lambda (store out).out); par = a.0.lambda; qrsolvs = a.0.trials }
+    ≡ record { x = take st.n (search_call st order diag radius lambda store out).out; par = a.0.lambda; qrsolvs = a.0.trials }
 search-answers_as_lmpar unset st order diag radius lambda store out a h wide =
     answers_as_lmpar st order diag radius lambda store out a h (minpack_enorm unset) (enorm_is_norm unset)
-    (inl (omega (arith, diagonal-length 0 (load st.n store).upper, fits st order diag radius lambda (store out a h).upper_wide)))
+    (inl (omega (arith, diagonal-length 0 (load st.n store).upper, (fits st order diag radius lambda store out a h).upper_wide)))
 
 -- any outcome that meets the contract's equation
 outcome_is_lmpar : (unset : Float) (st : State) (order : List ℕ) (diag : List Float) (radius lambda : Float) (store out : List Float) (r : SearchTold) {store' out' : List Float} (a : LMParameter) (seen : Ranges)

@@ -69,7 +69,7 @@ forward_is ws [] bs = refl
 forward_is ws (c ∷ cs) [] = refl
 forward_is ws (c ∷ cs) (b ∷ bs) =
     ap (λ (x : Float). forward (ws ++ (div binary64 (sub binary64 b x) (get_or c (length ws) nan) ∷ [])) cs bs) (dot_comm plus_zero (take (length ws) c) ws)
-    ∙ forward_is _ cs bs
+    ∙ forward_is (ws ++ (div binary64 (sub binary64 b (dot_from plus_zero ws (take (length ws) c))) (get_or c (length ws) nan) ∷ [])) cs bs
 
 -- 190 and 210: r is what QRSOLV left, column j with what stands under S's diagonal at place j
 do190_is : (r : List (List Float)) (j : ℕ) (temp : Float) (p s t ws : List Float) (i : ℕ) → get_or r j [] ≡ p ++ s → length p ≡ i → length t ≡ i → length s ≡ length ws

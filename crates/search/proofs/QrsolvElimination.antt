@@ -124,6 +124,7 @@ module _ (n : ℕ) (ipvt : List ℕ) (diag x : List Float) where
   do100_is zero j [] fl [] fx [] ei li ll ex lx lxs st lt e front [] fs [] fw [] q h ls lw tri lss lws = record { r_is = refl; sdiag_is = refl; wa_is = refl }
   do100_is zero j [] fl [] fx [] ei li ll ex lx lxs st lt e front [] fs [] fw (w ∷ ws) q h lf lw tri lss lws = absurd (omega arith)
   do100_is zero j [] fl [] fx [] ei li ll ex lx lxs st lt e front [] fs (s ∷ ss) fw ws q h lf lw tri lss lws = absurd (omega arith)
+  do100_is zero j [] fl [] fx [] ei li ll ex lx lxs st lt e front (_ ∷ _) fs ss fw ws q h ls lw tri lss lws = elim tri [ ]
   do100_is zero j [] fl [] fx (x₀ ∷ xs) ei li ll ex lx lxs st lt e front rows fs ss fw ws q h lf lw tri lss lws = absurd (omega arith)
   do100_is zero j [] fl (l ∷ ls) fx xs ei li ll ex lx lxs st lt e front rows fs ss fw ws q h lf lw tri lss lws = absurd (omega arith)
   do100_is zero j (t ∷ tops) fl ls fx xs ei li ll ex lx lxs st lt e front rows fs ss fw ws q h lf lw tri lss lws = absurd (omega arith)

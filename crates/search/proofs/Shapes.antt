@@ -1,16 +1,16 @@
 -- How long the definitions' vectors are, and that a damped room is one that a store can hold. Assumes nothing.
 use mathlib.Core.Path.{◌≡◌, refl, sym, ap, ◌∙◌}
 use mathlib.Core.Bool.{Bool, true, false, cond}
-use mathlib.Core.List.{List, [], ◌∷◌}
+use mathlib.Core.List.{List, [], ◌∷◌, ◌++◌}
 use Prim.Native.Nat.{ℕ, zero, suc, ◌+◌, ◌-◌, ◌<◌, ◌≤◌}
 use native.Mathlib.Nat.{not-suc-le-zero, le_of_suc-le-suc}
 use native.Mathlib.Omega.{arith}
 use lib.ListN.{length, get_or, take, drop, set, length-set, length-take, length-drop, length-map, length-append, length-replicate}
 use lib.Seq.{length-take-le}
-use lib.Ieee.{Float, nan, binary64, mul, div, neg, eq}
+use lib.Ieee.{Float, nan, binary64, mul, sub, div, neg, eq}
 use Rattle.leaves.specs.Number.{plus_zero}
 use Rattle.leaves.specs.Product.{product_all}
-use Rattle.leaves.specs.Vector.{axpy_all}
+use Rattle.leaves.specs.Vector.{dot_from, axpy_all}
 use Rattle.leaves.specs.Triangle.{solve_place, solve_down}
 use Rattle.leaves.proofs.Folds.{axpy-length}
 use Rattle.factor.specs.Room.{Room}
@@ -120,7 +120,7 @@ unfolding forward_upper
 forward-length xs [] [] h = omega arith
 forward-length xs [] (b ∷ bs) h = absurd (omega arith)
 forward-length xs (c ∷ cs) [] h = absurd (omega arith)
-forward-length xs (c ∷ cs) (b ∷ bs) h = forward-length _ cs bs (omega arith) ∙ simp length-append (omega arith)
+forward-length xs (c ∷ cs) (b ∷ bs) h = forward-length (xs ++ (div binary64 (sub binary64 b (dot_from plus_zero xs (take (length xs) c))) (get_or c (length xs) nan) ∷ [])) cs bs (omega arith) ∙ simp length-append (omega arith)
 
 pub upper-length : (us : List (List Float)) (bs : List Float) → length us ≡ length bs → length (forward_upper [] us bs) ≡ length bs
 upper-length us bs h = forward-length [] us bs h ∙ omega arith

@@ -1,0 +1,36 @@
+use mathlib.Core.Path.{refl, sym, ap, ◌∙◌}
+use mathlib.Core.Bool.{not}
+use mathlib.Core.List.{[], ◌∷◌}
+use lib.ListN.{length}
+use lib.Seq.{length-take-le}
+use Rattle.factor.specs.Tests.{room_tests, finite_test}
+use Rattle.leaves.proofs.Refusals.{stopped, test_met, went_to, past, none_left}
+use Rattle.factor.proofs.Passed.{room_passed}
+use Rattle.measures.proofs.update_diag.check_later.Goals as goal
+
+pub returns-then-c-ne0 : goal.returns-then-c-ne0
+returns-then-c-ne0 c =
+    let g = c.args in
+    let ts = room_tests g.st g.store (length g.diag.now) in
+    let t = finite_test g.st g.diag.now in
+    sym (stopped ts (t ∷ []) _ c.room-c.ensures c.if-c-ne0.true)
+
+pub slice_bounds-all_finite-end : goal.slice_bounds-all_finite-end
+slice_bounds-all_finite-end c =
+    let g = c.args in
+    let p = room_passed g.st g.store (length g.diag.now) (sym c.room-c.ensures ∙ c.if-c-ne0.false) in
+    sym (length-take-le g.st.n g.diag.now p.each_long)
+
+pub returns-then-all_finite : goal.returns-then-all_finite
+returns-then-all_finite c =
+    let g = c.args in
+    let ts = room_tests g.st g.store (length g.diag.now) in
+    let t = finite_test g.st g.diag.now in
+    went_to ts (t ∷ []) refl c.room-c.ensures c.if-c-ne0.false (past t [] (ap not (sym c.all_finite.ensures ∙ c.if-all_finite.true)) none_left)
+
+pub returns-else-all_finite : goal.returns-else-all_finite
+returns-else-all_finite c =
+    let g = c.args in
+    let ts = room_tests g.st g.store (length g.diag.now) in
+    let t = finite_test g.st g.diag.now in
+    went_to ts (t ∷ []) refl c.room-c.ensures c.if-c-ne0.false (sym (test_met t [] (ap not (sym c.all_finite.ensures ∙ c.if-all_finite.false))))
