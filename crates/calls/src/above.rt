@@ -10,7 +10,7 @@ ghost use Rattle.calls.specs.Measures.{marked_above_tests, marked_above};
 ghost use Rattle.calls.specs.inner.Reducible.{Reducible};
 
 use crate::check::{ordered, some_free};
-use crate::room::{narrow_in, rest_in_lem, room320, store_need};
+use crate::room::{narrow_in, rest_in, room320, store_need};
 use crate::state::{State, TruthTold, marked, reduced, whole};
 use factor::answer::Truth;
 use frozen::marks::free_count;
@@ -53,7 +53,7 @@ fn above_frozen(
 {
     narrow_in(st.n, st.marks, free, store, small);
     let t = measures::above::above_limit(reduced(st, free), small, order, bnorm, limit);
-    rest_in_lem(st.n, st.marks, free, store);
+    rest_in(st.n, st.marks, free, store);
     t.answer
 }
 

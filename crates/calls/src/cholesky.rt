@@ -14,7 +14,7 @@ ghost use Rattle.calls.specs.HeldCalls.{marked_solve, marked_mul, marked_read};
 ghost use Rattle.calls.specs.inner.Reducible.{Reducible};
 
 use crate::check::{ordered, room, some_free};
-use crate::room::{gather_in, held_into, narrow_in, rest_in_lem, room320, store_need};
+use crate::room::{gather_in, held_into, narrow_in, rest_in, room320, store_need};
 use crate::state::{State, Told, marked, reduced, whole};
 use factor::check::is_nothing;
 use frozen::marks::free_count;
@@ -205,7 +205,7 @@ pub fn solve(st: State, store: &mut [f64], order: &[usize], rhs: &[f64], out: &m
         &mut x[..free],
         out,
     );
-    rest_in_lem(n, marks, free, store);
+    rest_in(n, marks, free, store);
     Told {
         answer: answer,
         state: st,
@@ -245,7 +245,7 @@ pub fn mul_qt_b(st: State, store: &mut [f64], out: &mut [f64]) -> Told
     let mut small = room320();
     let mut x = room16();
     let answer = mul_frozen(st, free, store, &mut small[..need], &mut x[..free], out);
-    rest_in_lem(n, marks, free, store);
+    rest_in(n, marks, free, store);
     Told {
         answer: answer,
         state: st,

@@ -15,7 +15,7 @@ ghost use Rattle.calls.specs.Measures.{marked_gradient, marked_jx, marked_determ
 ghost use Rattle.calls.specs.inner.Reducible.{Reducible};
 
 use crate::check::{ordered, room, some_free};
-use crate::room::{gather_in, narrow_in, rest_in_lem, room320, store_need};
+use crate::room::{gather_in, narrow_in, rest_in, room320, store_need};
 use crate::state::{
     GradientTold, MeasuredTold, PlaceTold, State, TruthTold, marked, reduced, whole,
 };
@@ -59,7 +59,7 @@ fn gradient_frozen(
 {
     narrow_in(st.n, st.marks, free, store, small);
     let t = measures::measures::max_a_t_b_scaled(reduced(st, free), small, order, bnorm);
-    rest_in_lem(st.n, st.marks, free, store);
+    rest_in(st.n, st.marks, free, store);
     t.answer
 }
 
@@ -130,7 +130,7 @@ fn jx_frozen(
 {
     narrow_in(st.n, st.marks, free, store, small);
     let t = measures::measures::a_x_norm(reduced(st, free), small, order, xs);
-    rest_in_lem(st.n, st.marks, free, store);
+    rest_in(st.n, st.marks, free, store);
     t.answer
 }
 
@@ -198,7 +198,7 @@ fn determined_frozen(st: State, free: usize, store: &mut [f64], small: &mut [f64
 {
     narrow_in(st.n, st.marks, free, store, small);
     let t = measures::measures::determined(reduced(st, free), small);
-    rest_in_lem(st.n, st.marks, free, store);
+    rest_in(st.n, st.marks, free, store);
     t.answer
 }
 
@@ -244,7 +244,7 @@ fn rank_frozen(st: State, free: usize, store: &mut [f64], small: &mut [f64]) -> 
 {
     narrow_in(st.n, st.marks, free, store, small);
     let t = measures::measures::is_non_singular(reduced(st, free), small);
-    rest_in_lem(st.n, st.marks, free, store);
+    rest_in(st.n, st.marks, free, store);
     t.answer
 }
 

@@ -45,7 +45,7 @@ pub(crate) fn gather_in(n: usize, marks: u16, xs: &[f64], w: &mut [f64])
 }
 
 // After a call that is no solve.
-pub(crate) fn rest_in_lem(n: usize, marks: u16, free: usize, store: &mut [f64])
+pub(crate) fn rest_in(n: usize, marks: u16, free: usize, store: &mut [f64])
     requires { Reducible n marks free store.old }
     ensures { store.new ≡ lay (rested (load n store.old)) }
 {

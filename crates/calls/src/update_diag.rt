@@ -13,7 +13,7 @@ ghost use Rattle.calls.specs.Rescale.{marked_first_tests, marked_scaling_tests, 
 ghost use Rattle.calls.specs.inner.Reducible.{Reducible};
 
 use crate::check::{room, some_free};
-use crate::room::{gather_in, narrow_in, rest_in_lem, room320, store_need};
+use crate::room::{gather_in, narrow_in, rest_in, room320, store_need};
 use crate::state::{ScalingTold, State, marked, reduced, whole};
 use frozen::marks::free_count;
 use frozen::moved::{gather_free, merge_into};
@@ -121,7 +121,7 @@ fn scaling_frozen(
     let marks = st.marks;
     narrow_in(n, marks, free, store, small);
     let t = measures::update_diag::update_diag(reduced(st, free), small, mode, d, xs, bound);
-    rest_in_lem(n, marks, free, store);
+    rest_in(n, marks, free, store);
     let answer = t.answer;
     match answer {
         Scaling::First(start, seen) => {

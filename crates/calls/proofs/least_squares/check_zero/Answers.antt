@@ -1,0 +1,15 @@
+use mathlib.Core.Path.{refl, sym}
+use mathlib.Core.List.{[], ◌∷◌}
+use Rattle.leaves.proofs.Refusals.{stopped, went_to}
+use Rattle.calls.specs.Tests.{marked_solve_tests, free_test}
+use Rattle.calls.proofs.least_squares.check_zero.Goals as goal
+
+pub returns-then-c-ne0 : goal.returns-then-c-ne0
+returns-then-c-ne0 c =
+    let g = c.args in
+    sym (stopped (marked_solve_tests g.st g.store g.order.now g.out) (free_test g.st ∷ []) _ c.ordered-c.ensures c.if-c-ne0.true)
+
+pub returns : goal.returns
+returns c =
+    let g = c.args in
+    went_to (marked_solve_tests g.st g.store g.order.now g.out) (free_test g.st ∷ []) refl c.ordered-c.ensures c.if-c-ne0.false c.some_free.ensures
