@@ -158,16 +158,16 @@ reader_mul_qt_b_is κs a r s order p = ap shown_by p
 -- model what the source's `ensures` says entails the same.
 module _ {M : Type 1} {𝓤 : Ura M} (𝓛 : Logic 𝓤) (mem : Memory → SProp 𝓤) (run : Routine → Fun 𝓤) where
   pub reader_new_ensures : (κs : Lfts 1) (a : Args reader-new.signature κs) (r : CholeskyFactor) (s : AtExit reader-new.ended κs)
-      → ent 𝓤 (reader-new.clauses 𝓛 mem run κs a.ensures tt r s) (fact 𝓤 ((r.square ≡ a.0) × (r.state ≡ a.1.0)))
+      → ent 𝓤 ((reader-new.clauses 𝓛 mem run κs a).ensures tt r s) (fact 𝓤 ((r.square ≡ a.0) × (r.state ≡ a.1.0)))
   reader_new_ensures κs a r s = fact_mono 𝓤 (Says-new κs a r s) _ (reader_new_is κs a r s)
 
   pub reader_solve_ensures : (κs : Lfts 4) (a : Args reader-solve.signature κs) (r : Done) (s : AtExit reader-solve.ended κs)
-      → ent 𝓤 (reader-solve.clauses 𝓛 mem run κs a.ensures tt r s)
+      → ent 𝓤 ((reader-solve.clauses 𝓛 mem run κs a).ensures tt r s)
       (fact 𝓤 ((of_base (basic.done (done_of r)), s.1.1.1.0.now) ≡ shown (perform_marked (base (basic.held_solve (a.1.1.0.now) (a.1.1.1.0.now))) (a.0.state) (a.1.0.now) (a.0.square.now))))
   reader_solve_ensures κs a r s = fact_mono 𝓤 (Says-solve κs a r s) _ (reader_solve_is κs a r s)
 
   pub reader_mul_qt_b_ensures : (κs : Lfts 2) (a : Args reader-mul-qt-b.signature κs) (r : Done) (s : AtExit reader-mul-qt-b.ended κs) (order : List ℕ)
-      → ent 𝓤 (reader-mul-qt-b.clauses 𝓛 mem run κs a.ensures tt r s)
+      → ent 𝓤 ((reader-mul-qt-b.clauses 𝓛 mem run κs a).ensures tt r s)
       (fact 𝓤 ((of_base (basic.done (done_of r)), s.1.0.now) ≡ shown (perform_marked (base (basic.held_product (a.1.0.now))) (a.0.state) order (a.0.square.now))))
   reader_mul_qt_b_ensures κs a r s order = fact_mono 𝓤 (Says-mul-qt-b κs a r s) _ (reader_mul_qt_b_is κs a r s order)
 
