@@ -3,14 +3,15 @@
 // One byte more is read than the longest sheet has, 3 + 8 · (128 · 16 + 128 + 16 + 2) of them: a longer input is then refused by its length,
 // as the whole of it would be (`overlong` in crates/sheet/proofs/Overlong.antt). A failed read counts as the end (D63 of docs/DECISIONS.md).
 //
-// Proved: it is safe and ends; what it is handed and what it prints are one equation with a definition (`fit_lines`). Assumed: the
-// contracts of the C functions `read` and `write`.
+// Proved: it is safe and ends; what it is handed and what it prints are one equation with a definition (`fit_lines`). No contract says which
+// bytes come from standard input or reach standard output. A write that fails is passed over.
 #![tactic(auto)]
 
 ghost use Rattle.std.specs.Prelude.{◌≡◌, length};
 
 use leaves::reply::Place;
 use lines::part::within;
+use std::io::Stdout;
 
 fn sheet_room() -> [u8; 17556]
     ensures { 17556 ≡ length result }
@@ -24,18 +25,19 @@ fn text_room() -> [u8; 1024]
     [0; 1024]
 }
 
-fn show(text: &[u8], n: usize) {
+// A write that fails is passed over.
+fn show(screen: Stdout, text: &[u8], n: usize) {
     let k = within(text, n);
-    io::write_all(1, &text[..k]);
+    let _ = screen.write_all(&text[..k]);
 }
 
-fn main() {
+fn main(rt: HostRuntime) {
     let mut room = sheet_room();
     let mut text = text_room();
-    let n = io::read_full(0, &mut room);
+    let n = lines::input::full(rt.stdin(), &mut room);
     let p = sheet::lines::fit_lines(&room[..n], &mut text);
     match p {
-        Place::At(k) => show(&text, k),
-        Place::Refused(_) => show(&text, 0),
+        Place::At(k) => show(rt.stdout(), &text, k),
+        Place::Refused(_) => show(rt.stdout(), &text, 0),
     }
 }

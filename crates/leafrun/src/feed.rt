@@ -3,6 +3,7 @@ use crate::vectors::Answer;
 use crate::{answer, leaf, tally};
 use lines::part::{doubles_within, within};
 use lines::scan::byte;
+use std::io::{Read, Stdin, Stdout};
 use std::num::wrapping_add_usize;
 
 // The place in the chunk; how many bytes of the line have come; the line's number; the counts; whether there is more to read.
@@ -22,6 +23,10 @@ pub(crate) fn store() -> [u8; 131072] {
 
 fn answer_room() -> [u8; 8192] {
     [0; 8192]
+}
+
+fn chunk_room() -> [u8; 65536] {
+    [0; 65536]
 }
 
 // `= ` stands after the words that the leaf read.
@@ -57,28 +62,28 @@ fn agrees(s: &[u8], a: Answer) -> bool {
     same(s, wrapping_add_usize(a.next, 2), &out, len)
 }
 
-fn compare(s: &[u8], line: u64, counts: [u64; 32]) -> [u64; 32] {
+fn compare(screen: Stdout, s: &[u8], line: u64, counts: [u64; 32]) -> [u64; 32] {
     let a = leaf::run(s);
     let kind = leaf::kind(byte(s, 0));
     let good = a.good & marked(s, a.next);
     let is = good & agrees(s, a);
-    tally::compared(kind, line, good, is, counts)
+    tally::compared(screen, kind, line, good, is, counts)
 }
 
 // The line that the store holds. One that is longer than the store does not parse.
-fn end(store: &[u8], fill: usize, line: u64, counts: [u64; 32]) -> [u64; 32] {
+fn end(screen: Stdout, store: &[u8], fill: usize, line: u64, counts: [u64; 32]) -> [u64; 32] {
     let n = within(store, fill);
     if n < fill {
-        return tally::compared(13, line, false, false, counts);
+        return tally::compared(screen, 13, line, false, false, counts);
     }
-    compare(&store[..n], line, counts)
+    compare(screen, &store[..n], line, counts)
 }
 
-fn next(chunk: &[u8], store: &mut [u8], p: Spot) -> Spot {
+fn next(screen: Stdout, chunk: &[u8], store: &mut [u8], p: Spot) -> Spot {
     let t = lines::feed::line(chunk, p.next, store, p.fill);
     let counts = p.counts;
     if t.ended {
-        let after = end(store, t.fill, p.line, counts);
+        let after = end(screen, store, t.fill, p.line, counts);
         return Spot {
             next: t.next,
             fill: 0,
@@ -97,7 +102,7 @@ fn next(chunk: &[u8], store: &mut [u8], p: Spot) -> Spot {
 }
 
 // A chunk has no more lines than bytes.
-fn feed(chunk: &[u8], store: &mut [u8], p: Spot) -> Spot {
+fn feed(screen: Stdout, chunk: &[u8], store: &mut [u8], p: Spot) -> Spot {
     let mut q = p;
     q.next = 0;
     let mut i: usize = 0;
@@ -105,35 +110,34 @@ fn feed(chunk: &[u8], store: &mut [u8], p: Spot) -> Spot {
         if chunk.len() <= q.next {
             return q;
         }
-        q = next(chunk, store, q);
+        q = next(screen, chunk, store, q);
         i += 1;
     }
     q
 }
 
 // At the end of the input: a read that failed counts as a line that does not parse, and a last line may have no end.
-fn last(got: isize, store: &[u8], p: Spot) -> [u64; 32] {
+fn last(screen: Stdout, read: bool, store: &[u8], p: Spot) -> [u64; 32] {
     let counts = p.counts;
-    let failed = if got == 0 {
+    let failed = if read {
         counts
     } else {
-        tally::compared(13, p.line, false, false, counts)
+        tally::compared(screen, 13, p.line, false, false, counts)
     };
     if p.fill == 0 {
         return failed;
     }
-    end(store, p.fill, p.line, failed)
+    end(screen, store, p.fill, p.line, failed)
 }
 
 // One read.
-fn some(store: &mut [u8], p: Spot) -> Spot {
-    let mut chunk = io::large_buffer();
-    let got = libc::read(0, &mut chunk);
-    if got > 0 {
-        let n = io::count(got, &chunk);
-        return feed(&chunk[..n], store, p);
-    }
-    let counts = last(got, store, p);
+fn some(mut input: Stdin, screen: Stdout, store: &mut [u8], p: Spot) -> Spot {
+    let mut chunk = chunk_room();
+    let counts = match input.read(&mut chunk) {
+        Ok(0) => last(screen, true, store, p),
+        Ok(n) => return feed(screen, &chunk[..n], store, p),
+        Err(_) => last(screen, false, store, p),
+    };
     Spot {
         next: 0,
         fill: 0,
@@ -144,7 +148,7 @@ fn some(store: &mut [u8], p: Spot) -> Spot {
 }
 
 // Nothing says that the input ends, so the turns are counted down from a number that no run uses up.
-pub(crate) fn all(store: &mut [u8]) -> [u64; 32] {
+pub(crate) fn all(input: Stdin, screen: Stdout, store: &mut [u8]) -> [u64; 32] {
     let none = tally::none();
     let mut p = Spot {
         next: 0,
@@ -159,7 +163,7 @@ pub(crate) fn all(store: &mut [u8]) -> [u64; 32] {
             let counts = p.counts;
             return counts;
         }
-        p = some(store, p);
+        p = some(input, screen, store, p);
         turns -= 1;
     }
     let counts = p.counts;

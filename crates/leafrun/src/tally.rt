@@ -1,6 +1,7 @@
 // How many lines of each kind were compared and how many differ, and what is printed.
 use lines::feed::Fed;
 use lines::part::within;
+use std::io::Stdout;
 use text::put;
 
 // For the 13 leaves and, last, for lines that name none: how many were compared, then how many differ. Place 28 counts the lines named.
@@ -20,9 +21,10 @@ fn bump(counts: [u64; 32], i: usize) -> [u64; 32] {
     c
 }
 
-fn print(text: &[u8], n: usize) {
+// A write that fails is passed over.
+fn print(screen: Stdout, text: &[u8], n: usize) {
     let k = within(text, n);
-    io::write_all(1, &text[..k]);
+    let _ = screen.write_all(&text[..k]);
 }
 
 fn space() -> [u8; 128] {
@@ -39,17 +41,18 @@ fn say(line: u64, good: bool, out: &mut [u8]) -> usize {
 }
 
 // The first 20 lines that differ are named.
-fn name(line: u64, good: bool, counts: [u64; 32]) -> [u64; 32] {
+fn name(screen: Stdout, line: u64, good: bool, counts: [u64; 32]) -> [u64; 32] {
     if count(counts, 28) >= 20 {
         return counts;
     }
     let mut room = space();
     let n = say(line, good, &mut room);
-    print(&room, n);
+    print(screen, &room, n);
     bump(counts, 28)
 }
 
 pub(crate) fn compared(
+    screen: Stdout,
     kind: usize,
     line: u64,
     good: bool,
@@ -61,6 +64,7 @@ pub(crate) fn compared(
         return all;
     }
     name(
+        screen,
         line,
         good,
         bump(all, std::num::wrapping_add_usize(kind, 14)),
@@ -85,25 +89,25 @@ fn finish(compared: u64, differ: u64, out: &mut [u8], at: usize) -> usize {
 }
 
 // The row of a kind, where lines of it came. Answers the place of the next kind's title.
-fn row(at: usize, compared: u64, differ: u64) -> usize {
+fn row(screen: Stdout, at: usize, compared: u64, differ: u64) -> usize {
     let mut room = space();
     let t = title(at, &mut room);
     if compared == 0 {
         return t.next;
     }
     let n = finish(compared, differ, &mut room, t.fill);
-    print(&room, n);
+    print(screen, &room, n);
     t.next
 }
 
-fn total(compared: u64, differ: u64) {
+fn total(screen: Stdout, compared: u64, differ: u64) {
     let mut room = space();
     let n = finish(compared, differ, &mut room, 0);
-    print(&room, n);
+    print(screen, &room, n);
 }
 
 // A row for each kind that came, and the sums.
-pub(crate) fn report(counts: [u64; 32]) {
+pub(crate) fn report(screen: Stdout, counts: [u64; 32]) {
     let mut compared: u64 = 0;
     let mut differ: u64 = 0;
     let mut at: usize = 0;
@@ -111,10 +115,10 @@ pub(crate) fn report(counts: [u64; 32]) {
     while k < 14 {
         let c = count(counts, k);
         let d = count(counts, k + 14);
-        at = row(at, c, d);
+        at = row(screen, at, c, d);
         compared = std::num::wrapping_add_u64(compared, c);
         differ = std::num::wrapping_add_u64(differ, d);
         k += 1;
     }
-    total(compared, differ);
+    total(screen, compared, differ);
 }

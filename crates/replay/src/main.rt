@@ -21,8 +21,8 @@ mod rescale;
 mod room;
 mod stage;
 
-fn main() {
+fn main(rt: HostRuntime) {
     let mut line = room::line();
     let mut text = room::text();
-    feed::all(&mut line, &mut text);
+    feed::all(rt.stdin(), rt.stdout(), &mut line, &mut text);
 }

@@ -7,8 +7,8 @@
 // zero, which the first column answers; 7 factors and packs into a room of its own; 8 does that and unpacks. `tools/speed` runs it under a
 // counter of instructions beside MINPACK on the same problems.
 //
-// Proved: every function is safe and ends. Assumed: the contracts of the C functions `read` and `write`. The checksum is compared with
-// the oracle's.
+// Proved: every function is safe and ends. The checksum is compared with the oracle's. No contract says which bytes come from standard
+// input or reach standard output. A write that fails is passed over.
 #![tactic(auto)]
 
 mod away;
@@ -17,8 +17,8 @@ mod play;
 mod room;
 mod script;
 
-fn main() {
-    let mut text = io::buffer();
-    let n = io::read_full(0, &mut text);
-    script::run(&text[..n]);
+fn main(rt: HostRuntime) {
+    let mut text = room::text();
+    let n = lines::input::full(rt.stdin(), &mut text);
+    script::run(rt.stdout(), &text[..n]);
 }

@@ -28,6 +28,11 @@ pub(crate) fn packed() -> [f64; 168] {
     [0.0; 168]
 }
 
+// The script and more.
+pub(crate) fn text() -> [u8; 4096] {
+    [0; 4096]
+}
+
 pub(crate) fn line() -> [u8; 17] {
     [10; 17]
 }

@@ -3,13 +3,15 @@ use crate::make::first_seed;
 use crate::play::{Tally, Task, all};
 use crate::room;
 use lines::scan::{Number, byte, word};
+use std::io::Stdout;
 use text::double::bits_of;
 use text::put;
 
-fn print(sum: f64) {
+// A write that fails is passed over.
+fn print(screen: Stdout, sum: f64) {
     let mut line = room::line();
     put::word(bits_of(sum), &mut line, 0);
-    io::write_all(1, &line);
+    let _ = screen.write_all(&line);
 }
 
 // A word that may be left out.
@@ -32,7 +34,7 @@ fn marks_of(k: u64) -> u16 {
 }
 
 // A word that does not read leaves its place, so that no word after it is good either.
-pub(crate) fn run(s: &[u8]) {
+pub(crate) fn run(screen: Stdout, s: &[u8]) {
     let m = word(s, 0);
     let n = word(s, m.next);
     let calls = word(s, n.next);
@@ -41,7 +43,7 @@ pub(crate) fn run(s: &[u8]) {
     let drawn = more(s, marks, n.value);
     let good = drawn.good & (marks.value <= 65535);
     if !good {
-        io::write_all(1, b"does not parse\n");
+        let _ = screen.write_all(b"does not parse\n");
         return;
     }
     let t = Task {
@@ -55,5 +57,5 @@ pub(crate) fn run(s: &[u8]) {
         seed: first_seed(),
         sum: 0.0,
     };
-    print(all(t, calls.value as usize, start));
+    print(screen, all(t, calls.value as usize, start));
 }

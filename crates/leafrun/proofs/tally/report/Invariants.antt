@@ -1,0 +1,6 @@
+-- The measure is what is left of the kinds.
+use Rattle.std.proofs.Common.{◌-◌}
+use Rattle.leafrun.proofs.tally.report.Given as goal
+
+abbrev pub decreases-loop-k : goal.decreases-loop-k
+decreases-loop-k l = 14 - l.k

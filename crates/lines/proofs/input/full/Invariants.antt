@@ -1,0 +1,9 @@
+-- The measure is the room that is left.
+use Rattle.std.proofs.Common.{◌-◌, ◌≤◌, length}
+use Rattle.lines.proofs.input.full.Given as goal
+
+abbrev pub invariant-loop-done : goal.invariant-loop-done
+invariant-loop-done l = l.done ≤ length l.buf
+
+abbrev pub decreases-loop-done : goal.decreases-loop-done
+decreases-loop-done l = length l.buf - l.done

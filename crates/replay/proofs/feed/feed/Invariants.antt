@@ -1,0 +1,6 @@
+-- The measure is what is left of the turns, of which there are as many as bytes.
+use Rattle.std.proofs.Common.{◌-◌, length}
+use Rattle.replay.proofs.feed.feed.Given as goal
+
+abbrev pub decreases-loop-i : goal.decreases-loop-i
+decreases-loop-i l = length l.chunk - l.i

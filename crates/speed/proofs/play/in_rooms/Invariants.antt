@@ -1,0 +1,6 @@
+-- The measure is the number of problems left.
+use Rattle.std.proofs.Common.{◌-◌}
+use Rattle.speed.proofs.play.in_rooms.Given as goal
+
+abbrev pub decreases-loop-c : goal.decreases-loop-c
+decreases-loop-c l = l.calls - l.c
