@@ -4,7 +4,7 @@ ghost use Rattle.leaves.specs.Tests.{first_of};
 ghost use Rattle.factor.specs.Answers.{truth_of};
 ghost use Rattle.factor.specs.State.{store_need};
 ghost use Rattle.measures.specs.Measures as plain;
-ghost use Rattle.calls.specs.State.{without_frozen as reducedState};
+ghost use Rattle.calls.specs.State.{without_frozen as reduced_state};
 ghost use Rattle.calls.specs.Outcome.{marked_told, narrowed_in, rested_by};
 ghost use Rattle.calls.specs.Measures.{marked_above_tests, marked_above};
 ghost use Rattle.calls.specs.inner.Reducible.{Reducible};
@@ -49,7 +49,7 @@ fn above_frozen(
 ) -> Truth
     requires reducible { Reducible st.n st.marks free store.old }
     requires small_len { length small.old ≡ store_need free }
-    ensures { marked_told (truth_of result) st store.new ≡ rested_by st store.old (plain.above_call (reducedState st) order.now bnorm limit (narrowed_in st store.old)) }
+    ensures { marked_told (truth_of result) st store.new ≡ rested_by st store.old (plain.above_call (reduced_state st) order.now bnorm limit (narrowed_in st store.old)) }
 {
     narrow_in(st.n, st.marks, free, store, small);
     let t = measures::above::above_limit(reduced(st, free), small, order, bnorm, limit);

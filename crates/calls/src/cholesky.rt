@@ -7,7 +7,7 @@ ghost use Rattle.factor.specs.State.{store_need};
 ghost use Rattle.factor.specs.Tests.{held_test, finite_test};
 ghost use Rattle.factor.specs.Outcome.{read};
 ghost use Rattle.factor.specs.HeldCalls as plain;
-ghost use Rattle.calls.specs.State.{whole as wholeState, without_frozen as reducedState};
+ghost use Rattle.calls.specs.State.{whole as whole_state, without_frozen as reduced_state};
 ghost use Rattle.calls.specs.Tests.{marked_room_tests, marked_solve_tests, free_test};
 ghost use Rattle.calls.specs.Outcome.{marked_ended, narrowed_in, held_by};
 ghost use Rattle.calls.specs.HeldCalls.{marked_solve, marked_mul, marked_read};
@@ -26,7 +26,7 @@ use leaves::vector::all_finite;
 
 // 5 where nothing is held, then 6, then 9.
 fn check_solve(st: State, store: usize, order: &[usize], rhs: &[f64], out: usize) -> u8
-    ensures { result ≡ first_of (marked_solve_tests st store order.now (min (length rhs.now) out) ++ (held_test (wholeState st) ∷ finite_test (wholeState st) rhs.now ∷ free_test st ∷ [])) }
+    ensures { result ≡ first_of (marked_solve_tests st store order.now (min (length rhs.now) out) ++ (held_test (whole_state st) ∷ finite_test (whole_state st) rhs.now ∷ free_test st ∷ [])) }
 {
     let c = ordered(st, store, least(rhs.len(), out), order);
     if c != 0 {
@@ -44,7 +44,7 @@ fn check_solve(st: State, store: usize, order: &[usize], rhs: &[f64], out: usize
 }
 
 fn check_mul(st: State, store: usize, out: usize) -> u8
-    ensures { result ≡ first_of (marked_room_tests st store out ++ (held_test (wholeState st) ∷ free_test st ∷ [])) }
+    ensures { result ≡ first_of (marked_room_tests st store out ++ (held_test (whole_state st) ∷ free_test st ∷ [])) }
 {
     let c = room(st, store, out);
     if c != 0 {
@@ -71,7 +71,7 @@ fn solve_frozen(
 ) -> Done
     requires reducible { Reducible st.n st.marks free store.now }
     requires small_len { (length small.old ≡ store_need free) × (length x.old ≡ free) × (st.n ≤ length out.old) }
-    ensures { read (done_of result) out.new ≡ marked_read (held_by st store.now out.old (plain.solve_call (reducedState st) order.now bs.now (narrowed_in st store.now) x.old)) }
+    ensures { read (done_of result) out.new ≡ marked_read (held_by st store.now out.old (plain.solve_call (reduced_state st) order.now bs.now (narrowed_in st store.now) x.old)) }
 {
     let n = st.n;
     narrow_in(n, st.marks, free, store, small);
@@ -94,7 +94,7 @@ fn mul_frozen(
 ) -> Done
     requires reducible { Reducible st.n st.marks free store.now }
     requires small_len { (length small.old ≡ store_need free) × (length x.old ≡ free) × (st.n ≤ length out.old) }
-    ensures { read (done_of result) out.new ≡ marked_read (held_by st store.now out.old (plain.mul_call (reducedState st) (narrowed_in st store.now) x.old)) }
+    ensures { read (done_of result) out.new ≡ marked_read (held_by st store.now out.old (plain.mul_call (reduced_state st) (narrowed_in st store.now) x.old)) }
 {
     let n = st.n;
     narrow_in(n, st.marks, free, store, small);

@@ -5,7 +5,7 @@ ghost use Rattle.leaves.specs.Tests.{first_of};
 ghost use Rattle.factor.specs.State.{store_need};
 ghost use Rattle.factor.specs.Tests.{finite_test};
 ghost use Rattle.factor.specs.Solves as plain;
-ghost use Rattle.calls.specs.State.{whole as wholeState, without_frozen as reducedState};
+ghost use Rattle.calls.specs.State.{whole as whole_state, without_frozen as reduced_state};
 ghost use Rattle.calls.specs.Tests.{marked_solve_tests, free_test};
 ghost use Rattle.calls.specs.Outcome.{marked_ended, narrowed_in, emptied_by, widened_by};
 ghost use Rattle.calls.specs.Solves.{marked_zero, marked_damped};
@@ -42,7 +42,7 @@ fn zero_frozen(
 ) -> Told
     requires reducible { Reducible st.n st.marks free store.old }
     requires small_len { (length small.old ≡ store_need free) × (length x.old ≡ free) × (st.n ≤ length out.old) }
-    ensures { marked_ended (done_of result.answer) result.state store.new out.new ≡ emptied_by st store.old out.old (plain.zero_call (reducedState st) order.now (narrowed_in st store.old) x.old) }
+    ensures { marked_ended (done_of result.answer) result.state store.new out.new ≡ emptied_by st store.old out.old (plain.zero_call (reduced_state st) order.now (narrowed_in st store.old) x.old) }
 {
     let n = st.n;
     let marks = st.marks;
@@ -118,7 +118,7 @@ pub fn solve_with_zero_diagonal(
 
 // 6 for the diagonal comes after the tests of every solve, 9 last.
 fn check_damped(st: State, store: usize, order: &[usize], diag: &[f64], out: usize) -> u8
-    ensures { result ≡ first_of (marked_solve_tests st store order.now (min (length diag.now) out) ++ (finite_test (wholeState st) diag.now ∷ free_test st ∷ [])) }
+    ensures { result ≡ first_of (marked_solve_tests st store order.now (min (length diag.now) out) ++ (finite_test (whole_state st) diag.now ∷ free_test st ∷ [])) }
 {
     let c = ordered(st, store, least(diag.len(), out), order);
     if c != 0 {
@@ -144,7 +144,7 @@ fn damped_frozen(
 ) -> Told
     requires reducible { Reducible st.n st.marks free store.old }
     requires small_len { (length small.old ≡ store_need free) × (length x.old ≡ free) × (st.n ≤ length out.old) }
-    ensures { marked_ended (done_of result.answer) result.state store.new out.new ≡ widened_by st store.old out.old (plain.damped_call (reducedState st) ds.now order.now (narrowed_in st store.old) x.old) }
+    ensures { marked_ended (done_of result.answer) result.state store.new out.new ≡ widened_by st store.old out.old (plain.damped_call (reduced_state st) ds.now order.now (narrowed_in st store.old) x.old) }
 {
     let n = st.n;
     let marks = st.marks;

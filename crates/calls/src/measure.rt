@@ -8,7 +8,7 @@ ghost use Rattle.factor.specs.State.{store_need};
 ghost use Rattle.factor.specs.Tests.{finite_test, finite_number, not_above};
 ghost use Rattle.measures.specs.Answers.{gradient_of};
 ghost use Rattle.measures.specs.Measures as plain;
-ghost use Rattle.calls.specs.State.{whole as wholeState, without_frozen as reducedState};
+ghost use Rattle.calls.specs.State.{whole as whole_state, without_frozen as reduced_state};
 ghost use Rattle.calls.specs.Tests.{marked_room_tests, form_test, marked_solve_tests, free_test};
 ghost use Rattle.calls.specs.Outcome.{marked_told, narrowed_in, rested_by};
 ghost use Rattle.calls.specs.Measures.{marked_gradient, marked_jx, marked_determined, marked_non_singular};
@@ -55,7 +55,7 @@ fn gradient_frozen(
 ) -> Gradient
     requires reducible { Reducible st.n st.marks free store.old }
     requires small_len { length small.old ≡ store_need free }
-    ensures { marked_told (gradient_of result) st store.new ≡ rested_by st store.old (plain.gradient_call (reducedState st) order.now bnorm (narrowed_in st store.old)) }
+    ensures { marked_told (gradient_of result) st store.new ≡ rested_by st store.old (plain.gradient_call (reduced_state st) order.now bnorm (narrowed_in st store.old)) }
 {
     narrow_in(st.n, st.marks, free, store, small);
     let t = measures::measures::max_a_t_b_scaled(reduced(st, free), small, order, bnorm);
@@ -103,7 +103,7 @@ pub fn max_a_t_b_scaled(st: State, store: &mut [f64], order: &[usize], bnorm: f6
 // ---- the norm of Jx
 
 fn check_jx(st: State, store: usize, order: &[usize], x: &[f64]) -> u8
-    ensures { result ≡ first_of (marked_solve_tests st store order.now (length x.now) ++ (finite_test (wholeState st) x.now ∷ free_test st ∷ [])) }
+    ensures { result ≡ first_of (marked_solve_tests st store order.now (length x.now) ++ (finite_test (whole_state st) x.now ∷ free_test st ∷ [])) }
 {
     let c = ordered(st, store, x.len(), order);
     if c != 0 {
@@ -126,7 +126,7 @@ fn jx_frozen(
 ) -> Measured
     requires reducible { Reducible st.n st.marks free store.old }
     requires small_len { length small.old ≡ store_need free }
-    ensures { marked_told (measured_of result) st store.new ≡ rested_by st store.old (plain.jx_call (reducedState st) order.now xs.now (narrowed_in st store.old)) }
+    ensures { marked_told (measured_of result) st store.new ≡ rested_by st store.old (plain.jx_call (reduced_state st) order.now xs.now (narrowed_in st store.old)) }
 {
     narrow_in(st.n, st.marks, free, store, small);
     let t = measures::measures::a_x_norm(reduced(st, free), small, order, xs);
@@ -194,7 +194,7 @@ fn check_room(st: State, store: usize) -> u8
 fn determined_frozen(st: State, free: usize, store: &mut [f64], small: &mut [f64]) -> Place
     requires reducible { Reducible st.n st.marks free store.old }
     requires small_len { length small.old ≡ store_need free }
-    ensures { marked_told (place_of result) st store.new ≡ rested_by st store.old (plain.determined_call (reducedState st) (narrowed_in st store.old)) }
+    ensures { marked_told (place_of result) st store.new ≡ rested_by st store.old (plain.determined_call (reduced_state st) (narrowed_in st store.old)) }
 {
     narrow_in(st.n, st.marks, free, store, small);
     let t = measures::measures::determined(reduced(st, free), small);
@@ -240,7 +240,7 @@ pub fn determined(st: State, store: &mut [f64]) -> PlaceTold
 fn rank_frozen(st: State, free: usize, store: &mut [f64], small: &mut [f64]) -> Truth
     requires reducible { Reducible st.n st.marks free store.old }
     requires small_len { length small.old ≡ store_need free }
-    ensures { marked_told (truth_of result) st store.new ≡ rested_by st store.old (plain.non_singular_call (reducedState st) (narrowed_in st store.old)) }
+    ensures { marked_told (truth_of result) st store.new ≡ rested_by st store.old (plain.non_singular_call (reduced_state st) (narrowed_in st store.old)) }
 {
     narrow_in(st.n, st.marks, free, store, small);
     let t = measures::measures::is_non_singular(reduced(st, free), small);

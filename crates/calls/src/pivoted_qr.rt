@@ -3,7 +3,7 @@ ghost use Rattle.std.specs.Prelude.{◌≡◌, false, ◌++◌, ◌-◌, ◌*◌
 ghost use Rattle.leaves.specs.Loop.{count_from};
 ghost use Rattle.leaves.specs.Reply.{ranged_of};
 ghost use Rattle.leaves.specs.Square.{zeros};
-ghost use Rattle.leaves.specs.Tests.{outside as outsideOf, first_of};
+ghost use Rattle.leaves.specs.Tests.{outside as outside_of, first_of};
 ghost use Rattle.frozen.specs.Frozen.{marks_of, free_count, free_columns};
 ghost use Rattle.frozen.specs.Narrowed.{spread_out};
 ghost use Rattle.factor.specs.State.{store_need, bench_need};
@@ -96,7 +96,7 @@ fn check_factor(
 
 // The free columns, one after the other. With no mark they are all of them, and are copied at once.
 fn gather_columns(m: usize, n: usize, marks: u16, jacobian: &[f64], bench: &mut [f64])
-    requires n_value { (outsideOf m n ≡ false) × (m * n ≤ length jacobian.now) }
+    requires n_value { (outside_of m n ≡ false) × (m * n ≤ length jacobian.now) }
     requires bench_len { length bench.old ≡ m * free_count (marks_of n marks) }
     ensures { bench.new ≡ free_columns m (marks_of n marks) jacobian.now }
 {

@@ -1,6 +1,6 @@
 // 02, #108: the state with its marks, and what calls answer.
 ghost use Rattle.std.specs.Prelude.{◌≡◌};
-ghost use Rattle.calls.specs.State.{no_problem as emptyState, marked_held, marked as markedState, cols, whole as wholeState, without_frozen as reducedState};
+ghost use Rattle.calls.specs.State.{no_problem as empty_state, marked_held, marked as marked_state, cols, whole as whole_state, without_frozen as reduced_state};
 
 use factor::answer::Truth;
 use factor::state::Held;
@@ -67,7 +67,7 @@ pub struct SearchTold {
 }
 
 pub(crate) fn empty() -> State
-    ensures { result ≡ emptyState }
+    ensures { result ≡ empty_state }
 {
     State {
         m: 0,
@@ -91,7 +91,7 @@ pub(crate) fn with_held(st: State, held: Held) -> State
 
 // A state that knows no marks, and marks.
 pub(crate) fn marked(marks: u16, st: factor::state::State) -> State
-    ensures { result ≡ markedState marks st }
+    ensures { result ≡ marked_state marks st }
 {
     let held = st.held;
     State {
@@ -104,7 +104,7 @@ pub(crate) fn marked(marks: u16, st: factor::state::State) -> State
 
 // The problem with all its columns.
 pub(crate) fn whole(st: State) -> factor::state::State
-    ensures { result ≡ wholeState st }
+    ensures { result ≡ whole_state st }
 {
     let held = st.held;
     factor::state::State {
@@ -117,7 +117,7 @@ pub(crate) fn whole(st: State) -> factor::state::State
 // The problem without the frozen columns.
 pub(crate) fn reduced(st: State, free: usize) -> factor::state::State
     requires { free ≡ cols st }
-    ensures { result ≡ reducedState st }
+    ensures { result ≡ reduced_state st }
 {
     let held = st.held;
     factor::state::State {

@@ -4,7 +4,7 @@ ghost use Rattle.leaves.specs.Tests.{first_of};
 ghost use Rattle.factor.specs.State.{store_need};
 ghost use Rattle.search.specs.Answers.{found_of};
 ghost use Rattle.search.specs.Search as plain;
-ghost use Rattle.calls.specs.State.{without_frozen as reducedState};
+ghost use Rattle.calls.specs.State.{without_frozen as reduced_state};
 ghost use Rattle.calls.specs.Outcome.{marked_ended, narrowed_in, emptied_by};
 ghost use Rattle.calls.specs.Search.{marked_search_tests, marked_search};
 ghost use Rattle.calls.specs.inner.Reducible.{Reducible};
@@ -70,7 +70,7 @@ fn search_frozen(
 ) -> SearchTold
     requires reducible { Reducible st.n st.marks free store.old }
     requires small_len { (length small.old ≡ store_need free) × (length x.old ≡ free) × (st.n ≤ length out.old) }
-    ensures { marked_ended (found_of result.answer) result.state store.new out.new ≡ emptied_by st store.old out.old (plain.search_call (reducedState st) order.now ds.now radius lambda (narrowed_in st store.old) x.old) }
+    ensures { marked_ended (found_of result.answer) result.state store.new out.new ≡ emptied_by st store.old out.old (plain.search_call (reduced_state st) order.now ds.now radius lambda (narrowed_in st store.old) x.old) }
 {
     let n = st.n;
     let marks = st.marks;

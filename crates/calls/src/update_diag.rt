@@ -6,7 +6,7 @@ ghost use Rattle.factor.specs.State.{store_need};
 ghost use Rattle.factor.specs.Tests.{finite_test};
 ghost use Rattle.measures.specs.Answers.{scaling_of};
 ghost use Rattle.measures.specs.Rescale as plain;
-ghost use Rattle.calls.specs.State.{whole as wholeState, without_frozen as reducedState};
+ghost use Rattle.calls.specs.State.{whole as whole_state, without_frozen as reduced_state};
 ghost use Rattle.calls.specs.Tests.{marked_room_tests, free_test};
 ghost use Rattle.calls.specs.Outcome.{marked_ended, narrowed_in};
 ghost use Rattle.calls.specs.Rescale.{marked_first_tests, marked_scaling_tests, frozen_entries, scaled_by, marked_scaling};
@@ -45,7 +45,7 @@ fn check_first(st: State, store: usize, diag: &[f64], x: &[f64], bound: f64) -> 
 
 // A later scaled call reads the lent scaling.
 fn check_later(st: State, store: usize, diag: &[f64]) -> u8
-    ensures { result ≡ first_of (marked_room_tests st store (length diag.now) ++ (finite_test (wholeState st) diag.now ∷ free_test st ∷ [])) }
+    ensures { result ≡ first_of (marked_room_tests st store (length diag.now) ++ (finite_test (whole_state st) diag.now ∷ free_test st ∷ [])) }
 {
     let c = room(st, store, diag.len());
     if c != 0 {
@@ -115,7 +115,7 @@ fn scaling_frozen(
 ) -> Scaling
     requires reducible { Reducible st.n st.marks free store.old }
     requires small_len { (length small.old ≡ store_need free) × (length d.old ≡ free) × (st.n ≤ length diag.old) }
-    ensures { marked_ended (scaling_of result) st store.new diag.new ≡ scaled_by st mode diag.old store.old (plain.scaling_call (reducedState st) mode d.old xs.now bound (narrowed_in st store.old)) }
+    ensures { marked_ended (scaling_of result) st store.new diag.new ≡ scaled_by st mode diag.old store.old (plain.scaling_call (reduced_state st) mode d.old xs.now bound (narrowed_in st store.old)) }
 {
     let n = st.n;
     let marks = st.marks;

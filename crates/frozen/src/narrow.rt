@@ -2,7 +2,7 @@
 ghost use Rattle.std.specs.Prelude.{◌≡◌, ◌++◌, ◌-◌, ◌*◌, ◌≤◌, length};
 ghost use Rattle.leaves.specs.Reply.{done_of};
 ghost use Rattle.leaves.specs.Square.{zeros};
-ghost use Rattle.frozen.specs.Narrowed.{runs, narrow_call, spread as spreadRuns, spread_call};
+ghost use Rattle.frozen.specs.Narrowed.{runs, narrow_call, spread as spread_runs, spread_call};
 
 use leaves::reply::Done;
 use leaves::sizes::outside;
@@ -78,7 +78,7 @@ fn lay_runs(w: usize, apart: usize, count: usize, src: &[f64], dst: &mut [f64])
     requires w_le_apart { w ≤ apart }
     requires w_in_bounds { count * w ≤ length src.now }
     requires dst_len { length dst.old ≡ count * apart }
-    ensures { dst.new ≡ spreadRuns w apart count src.now }
+    ensures { dst.new ≡ spread_runs w apart count src.now }
 {
     let mut a = 0;
     let mut b = 0;

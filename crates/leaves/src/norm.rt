@@ -1,7 +1,7 @@
 // Document 01, 'Leaf rules', enorm: MINPACK-1's ENORM with document 01's limits. Sums of squares are kept apart for
 // small, middle and large entries, so that no square overflows or is lost.
 ghost use Rattle.std.specs.Prelude.{◌≡◌, ◌≤◌, length};
-ghost use Rattle.leaves.specs.Norm.{large as largeOf, small as smallOf, step as step_of, finish as finishOf, norm as normOf, ranges as rangesIn, neither as neitherOf, either as either_of, enorm as enormOf, carried};
+ghost use Rattle.leaves.specs.Norm.{large as large_of, small as small_of, step as step_of, finish as finish_of, norm as norm_of, ranges as ranges_in, neither as neither_of, either as either_of, enorm as enorm_of, carried};
 ghost use Rattle.leaves.specs.inner.Flags.{flags_of};
 ghost use Rattle.leaves.specs.Reply.{answered};
 
@@ -23,7 +23,7 @@ pub struct Sums {
 }
 
 fn large(t: Sums, v: f64) -> Sums
-    ensures { result ≡ largeOf t v }
+    ensures { result ≡ large_of t v }
 {
     if t.x1max < v {
         let q = t.x1max / v;
@@ -47,7 +47,7 @@ fn large(t: Sums, v: f64) -> Sums
 }
 
 fn small(t: Sums, v: f64) -> Sums
-    ensures { result ≡ smallOf t v }
+    ensures { result ≡ small_of t v }
 {
     if t.x3max < v {
         let q = t.x3max / v;
@@ -124,7 +124,7 @@ fn seen_in(t: Sums) -> Ranges
 }
 
 fn finish(t: Sums) -> f64
-    ensures { result ≡ finishOf t }
+    ensures { result ≡ finish_of t }
 {
     if t.s1 != 0.0 {
         return t.x1max * sqrt(t.s1 + t.s2 / t.x1max / t.x1max);
@@ -149,7 +149,7 @@ pub struct Normed {
 
 fn sum_up(v: &[f64]) -> Normed
     requires { length v.now ≤ 128 }
-    ensures { result ≡ carried (answered (normOf v.now, rangesIn v.now)) }
+    ensures { result ≡ carried (answered (norm_of v.now, ranges_in v.now)) }
 {
     let agiant = RGIANT / (v.len() as f64);
     let mut t = Sums {
@@ -174,7 +174,7 @@ fn sum_up(v: &[f64]) -> Normed
 
 // Of a call that works out no norm, and before the first.
 pub fn neither() -> Ranges
-    ensures { result ≡ neitherOf }
+    ensures { result ≡ neither_of }
 {
     Ranges {
         small: false,
@@ -199,7 +199,7 @@ pub fn either(a: Ranges, b: Ranges) -> Ranges
 // Refused 2 for more; the value is then +0, the flags are clear, and both mean nothing.
 // The sum is called at two places, or it would be built in here and the answer go through memory (docs/DECISIONS.md, D74).
 pub fn enorm(v: &[f64]) -> Normed
-    ensures { result ≡ carried (enormOf v.now) }
+    ensures { result ≡ carried (enorm_of v.now) }
 {
     if v.len() > 128 {
         let seen = neither();

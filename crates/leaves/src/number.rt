@@ -2,7 +2,7 @@
 // compares with nothing, so the first is kept where the second is one.
 ghost use Rattle.std.specs.Prelude.{◌≡◌};
 ghost use Rattle.std.specs.Float.Ieee.{lt, le};
-ghost use Rattle.leaves.specs.Number.{is_negative, abs_of, max_of, min_of, square_of, is_finite, epsmch as epsmchOf, dwarf as dwarfOf};
+ghost use Rattle.leaves.specs.Number.{is_negative, abs_of, max_of, min_of, square_of, is_finite, epsmch as epsmch_of, dwarf as dwarf_of};
 
 // 2^-52.
 const EPSMCH: f64 = 2.220446049250313e-16;
@@ -12,14 +12,14 @@ const DWARF: f64 = 2.2250738585072014e-308;
 
 // 2^−52: the distance from 1 to the next double. Refuses nothing.
 pub fn epsmch() -> f64
-    ensures { result ≡ epsmchOf }
+    ensures { result ≡ epsmch_of }
 {
     EPSMCH
 }
 
 // 2^−1022: the least normal double. Refuses nothing.
 pub fn dwarf() -> f64
-    ensures { result ≡ dwarfOf }
+    ensures { result ≡ dwarf_of }
 {
     DWARF
 }

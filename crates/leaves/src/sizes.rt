@@ -2,14 +2,14 @@
 // because `reduce` and `eliminate`, below it, make it too.
 ghost use Rattle.std.specs.Prelude.{◌≡◌, min, replicate};
 ghost use Rattle.leaves.specs.Number.{plus_zero};
-ghost use Rattle.leaves.specs.Tests.{outside as outsideOf};
+ghost use Rattle.leaves.specs.Tests.{outside as outside_of};
 
 // Test 2: m rows or n columns outside their range.
 //
 // m, n: the sizes asked about, any numbers.
 // Answers true where m is not 1 to 128 or n not 1 to 16. Refuses nothing.
 pub fn outside(m: usize, n: usize) -> bool
-    ensures { result ≡ outsideOf m n }
+    ensures { result ≡ outside_of m n }
 {
     if m == 0 {
         return true;

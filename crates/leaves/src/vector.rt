@@ -3,7 +3,7 @@ ghost use Rattle.std.specs.Prelude.{◌≡◌, length, replicate};
 ghost use Rattle.leaves.specs.Reply.{value_of, place_of, done_of};
 ghost use Rattle.leaves.specs.Loop.{count_from};
 ghost use Rattle.leaves.specs.Tests.{all_finite, none_zero};
-ghost use Rattle.leaves.specs.Vector.{dot as dot_of, axpy as axpyOf, axpy_zero, imax as imax_of, copy as copy_of};
+ghost use Rattle.leaves.specs.Vector.{dot as dot_of, axpy as axpy_of, axpy_zero, imax as imax_of, copy as copy_of};
 
 use crate::reply::{Done, Place, Value};
 
@@ -31,7 +31,7 @@ pub fn dot(a: &[f64], b: &[f64]) -> Value
 // x: only read. y: as long; on exit each a·x + y, the product rounded before the sum.
 // Refused 3 where their lengths differ; y is then as it was.
 pub fn axpy(a: f64, x: &[f64], y: &mut [f64]) -> Done
-    ensures { (done_of result, y.new) ≡ axpyOf a x.now y.old }
+    ensures { (done_of result, y.new) ≡ axpy_of a x.now y.old }
 {
     if x.len() != y.len() {
         return Done::Refused(3);

@@ -15,7 +15,7 @@ use Rattle.leaves.specs.Norm.{norm, either, ranges_of}
 use Rattle.leaves.specs.declared.norm.Ranges.{Ranges}
 use Rattle.leaves.specs.Loop.{upto, along}
 use Rattle.leaves.specs.Triangle.{columns}
-use Rattle.reduce.specs.Reduction.{start, reduced as reducedAt, measured_at}
+use Rattle.reduce.specs.Reduction.{start, reduced as reduced_at, measured_at}
 use Rattle.reduce.specs.inner.Bench.{grid, under_way, Reduces}
 use Rattle.reduce.specs.Reduced.{reduced_as, reduce_tests, filled_call}
 use Rattle.reduce.proofs.Begins.{filled_columns, filled_residuals}
@@ -50,8 +50,8 @@ module _ (m n : ℕ) (v₀ d₀ : List Float) (o₀ : List ℕ) (b₀ : List Flo
 
     -- what the working leaves: begun on the bench, and reduced column by column
     pub filled_works_out : (v d₁ w₁ x₁ d w b : List Float) (o₁ o : List ℕ) (seen all : Ranges) → v ≡ map norm (take n (grid m n b₀))
-        → under_way m n b₀ d₁ w₁ o₁ ≡ start (take n (grid m n b₀)) (get_or (grid m n b₀) n []) → x₁ ≡ w₁ → under_way m n b d w o ≡ upto (reducedAt n) (min m n) (under_way m n b₀ d₁ x₁ o₁)
-        → seen ≡ ranges_of (take n (grid m n b₀)) → all ≡ either seen (ranges_of (along (measured_at n) (reducedAt n) (min m n) (under_way m n b₀ d₁ x₁ o₁))) → length b ≡ length b₀
+        → under_way m n b₀ d₁ w₁ o₁ ≡ start (take n (grid m n b₀)) (get_or (grid m n b₀) n []) → x₁ ≡ w₁ → under_way m n b d w o ≡ upto (reduced_at n) (min m n) (under_way m n b₀ d₁ x₁ o₁)
+        → seen ≡ ranges_of (take n (grid m n b₀)) → all ≡ either seen (ranges_of (along (measured_at n) (reduced_at n) (min m n) (under_way m n b₀ d₁ x₁ o₁))) → length b ≡ length b₀
         → reduced_as (answered all) v d o b ≡ filled_call m n v₀ d₀ o₀ b₀
     unfolding filled_call
     filled_works_out v d₁ w₁ x₁ d w b o₁ o seen all hv h₁ ew h₂ hs ha eb =

@@ -19,7 +19,7 @@ use Rattle.leaves.specs.Triangle.{columns}
 use Rattle.leaves.specs.Loop.{upto, along}
 use Rattle.leaves.proofs.Triangles.{column_at}
 use Rattle.leaves.proofs.Refusals.{passed_iff, call-refused, call-worked}
-use Rattle.reduce.specs.Reduction.{Reduction, start, reduction_of, reduced as reducedAt, measured_at, measured}
+use Rattle.reduce.specs.Reduction.{Reduction, start, reduction_of, reduced as reduced_at, measured_at, measured}
 use Rattle.reduce.specs.inner.Bench.{grid, Benched, under_way, Reduces}
 use Rattle.reduce.specs.Reduced.{Reduced, reduced_as, flat, reduce_tests, reduce_call}
 use Rattle.reduce.proofs.Begins.{take-columns}
@@ -142,23 +142,23 @@ module _ (m n : ℕ) (jac res v₀ d₀ : List Float) (o₀ : List ℕ) (b₀ : 
 
   -- what the working leaves: begun on the bench, and reduced column by column
   pub call_works_out : (v d₁ w₁ x₁ b₁ d w b : List Float) (o₁ o : List ℕ) (seen all : Ranges) → tests ≡ 0 → v ≡ map norm (columns m n jac)
-      → under_way m n b₁ d₁ w₁ o₁ ≡ start (columns m n jac) (take m res) → x₁ ≡ w₁ → under_way m n b d w o ≡ upto (reducedAt n) (min m n) (under_way m n b₁ d₁ x₁ o₁)
-      → seen ≡ ranges_of (columns m n jac) → all ≡ either seen (ranges_of (along (measured_at n) (reducedAt n) (min m n) (under_way m n b₁ d₁ x₁ o₁))) → length b ≡ length b₀ → reduced_as (answered all) v d o b ≡ reduce_call m n jac res v₀ d₀ o₀ b₀
+      → under_way m n b₁ d₁ w₁ o₁ ≡ start (columns m n jac) (take m res) → x₁ ≡ w₁ → under_way m n b d w o ≡ upto (reduced_at n) (min m n) (under_way m n b₁ d₁ x₁ o₁)
+      → seen ≡ ranges_of (columns m n jac) → all ≡ either seen (ranges_of (along (measured_at n) (reduced_at n) (min m n) (under_way m n b₁ d₁ x₁ o₁))) → length b ≡ length b₀ → reduced_as (answered all) v d o b ≡ reduce_call m n jac res v₀ d₀ o₀ b₀
   unfolding reduction_of measured
   call_works_out v d₁ w₁ x₁ b₁ d w b o₁ o seen all t hv h₁ ew h₂ hs ha lb =
       let l = lengths m n (length jac) (length res) (length v₀) (length d₀) (length o₀) (length b₀) t in
       let f : Reduction = reduction_of m n (columns m n jac) res in
       let same : take m res ≡ res = take_all m res (le_of_eq l.res_long) in
       let from : under_way m n b₁ d₁ x₁ o₁ ≡ start (columns m n jac) res = ap (λ (x : List Float). under_way m n b₁ d₁ x o₁) ew ∙ h₁ ∙ ap (start (columns m n jac)) same in
-      let e : under_way m n b d w o ≡ f = h₂ ∙ ap (upto (reducedAt n) (min m n)) from in
+      let e : under_way m n b d w o ≡ f = h₂ ∙ ap (upto (reduced_at n) (min m n)) from in
       let full = (benched b (inside m n l.sizes) (lb ∙ l.bench_long)).whole in
       let hb : b ≡ flat f.cols ++ f.rhs = sym (bench_whole m n b full) ∙ ap (λ (x : Reduction). flat x.cols ++ x.rhs) e in
       let hd : d ≡ f.diag = ap (λ (x : Reduction). x.diag) e in
       let ho : o ≡ f.order = ap (λ (x : Reduction). x.order) e in
       let told : all ≡ ranges_of (measured m n (columns m n jac) res) =
-      ha ∙ ap (λ (x : Ranges). either x (ranges_of (along (measured_at n) (reducedAt n) (min m n) (under_way m n b₁ d₁ x₁ o₁)))) hs
-      ∙ ap (λ (x : Reduction). either (ranges_of (columns m n jac)) (ranges_of (along (measured_at n) (reducedAt n) (min m n) x))) from
-      ∙ sym (ranges_of-append (columns m n jac) (along (measured_at n) (reducedAt n) (min m n) (start (columns m n jac) res))) in
+      ha ∙ ap (λ (x : Ranges). either x (ranges_of (along (measured_at n) (reduced_at n) (min m n) (under_way m n b₁ d₁ x₁ o₁)))) hs
+      ∙ ap (λ (x : Reduction). either (ranges_of (columns m n jac)) (ranges_of (along (measured_at n) (reduced_at n) (min m n) x))) from
+      ∙ sym (ranges_of-append (columns m n jac) (along (measured_at n) (reduced_at n) (min m n) (start (columns m n jac) res))) in
       let whole : reduced_as (answered all) v d o b ≡ worked = rw (told, hv, hd, ho, hb) in
       whole ∙ call_works t
 

@@ -2,8 +2,8 @@
 ghost use Rattle.std.specs.Prelude.{◌≡◌, [], suc, ◌+◌, ◌-◌, ◌*◌, ◌<◌, ◌≤◌, length, get_or, set};
 ghost use Rattle.leaves.specs.Loop.{between, along_between};
 ghost use Rattle.leaves.specs.Norm.{either as either_of, ranges_of};
-ghost use Rattle.reduce.specs.Reduction.{axis_by, reflect as reflectOf, reflect_from, later, signed as signed_of, shrunk as shrunkOf, measured_later};
-ghost use Rattle.reduce.specs.inner.Bench.{grid, Benched, Steps, Sees, divided, renewed_at, remeasured_at, stale as staleOf};
+ghost use Rattle.reduce.specs.Reduction.{axis_by, reflect as reflect_of, reflect_from, later, signed as signed_of, shrunk as shrunk_of, measured_later};
+ghost use Rattle.reduce.specs.inner.Bench.{grid, Benched, Steps, Sees, divided, renewed_at, remeasured_at, stale as stale_of};
 
 use crate::wrap::{axpy_of, dot_of, norm_of};
 use leaves::norm::{Ranges, either};
@@ -42,7 +42,7 @@ pub(crate) fn make_axis(col: &[f64], t: f64, axis: &mut [f64])
 fn reflect(axis: &[f64], col: &mut [f64])
     requires col_len { length col.old ≡ length axis.now }
     requires axis_nonzero { 0 < length axis.now }
-    ensures { col.new ≡ reflectOf axis.now col.old }
+    ensures { col.new ≡ reflect_of axis.now col.old }
 {
     let s = dot_of(&col[..], axis);
     axpy_of(-(s / axis[0]), axis, col);
@@ -81,14 +81,14 @@ pub(crate) fn row_at(m: usize, n: usize, k: usize, i: usize) -> usize
 }
 
 fn shrunk(d: f64, x: f64) -> f64
-    ensures { result ≡ shrunkOf d x }
+    ensures { result ≡ shrunk_of d x }
 {
     let t = x / d;
     d * sqrt(max(1.0 - t * t, 0.0))
 }
 
 fn stale(s: f64, w: f64) -> bool
-    ensures { result ≡ staleOf s w }
+    ensures { result ≡ stale_of s w }
 {
     let t = s / w;
     0.05 * (t * t) <= epsmch()

@@ -1,7 +1,7 @@
 // Document 01, module 7: what a search asks of the held calls: lower bound, gnorm, corrections.
 ghost use Rattle.std.specs.Prelude.{◌≡◌, cond, length, take};
 ghost use Rattle.leaves.specs.Number.{plus_zero};
-ghost use Rattle.leaves.specs.Norm.{norm as normOf, ranges, neither as neitherOf};
+ghost use Rattle.leaves.specs.Norm.{norm as norm_of, ranges, neither as neither_of};
 ghost use Rattle.factor.specs.Room.{load};
 ghost use Rattle.factor.specs.Solve.{gather, non_singular_of};
 ghost use Rattle.factor.specs.Held.{held_solved};
@@ -30,7 +30,7 @@ fn slope_by_zero(
 ) -> Measure
     requires ready { Ready st store.now order.now }
     requires diag_len { (length diag.now ≡ st.n) × (length v.now ≡ st.n) × (length w.old ≡ st.n) }
-    ensures value_value { result.value ≡ normOf (held_solved held.Zero (gather (take st.n order.now) (turned_by norm v.now diag.now)) (load st.n store.now)) }
+    ensures value_value { result.value ≡ norm_of (held_solved held.Zero (gather (take st.n order.now) (turned_by norm v.now diag.now)) (load st.n store.now)) }
     ensures seen_value { result.seen ≡ ranges (held_solved held.Zero (gather (take st.n order.now) (turned_by norm v.now diag.now)) (load st.n store.now)) }
 {
     turn_into(v, norm, order, diag, w);
@@ -50,7 +50,7 @@ fn slope_by_damped(
 ) -> Measure
     requires ready { Ready st store.now order.now }
     requires diag_len { (length diag.now ≡ st.n) × (length v.now ≡ st.n) × (length w.old ≡ st.n) }
-    ensures value_value { result.value ≡ normOf (held_solved held.Damped (gather (take st.n order.now) (turned_by norm v.now diag.now)) (load st.n store.now)) }
+    ensures value_value { result.value ≡ norm_of (held_solved held.Damped (gather (take st.n order.now) (turned_by norm v.now diag.now)) (load st.n store.now)) }
     ensures seen_value { result.seen ≡ ranges (held_solved held.Damped (gather (take st.n order.now) (turned_by norm v.now diag.now)) (load st.n store.now)) }
 {
     turn_into(v, norm, order, diag, w);
@@ -73,7 +73,7 @@ pub(crate) fn correction(
 ) -> Measure
     requires ready { Ready st store.now order.now }
     requires diag_len { (length diag.now ≡ st.n) × (length v.now ≡ st.n) × (length w.old ≡ st.n) }
-    ensures value_value { result.value ≡ newton fp radius (normOf (held_solved held.Damped (gather (take st.n order.now) (turned_by norm v.now diag.now)) (load st.n store.now))) }
+    ensures value_value { result.value ≡ newton fp radius (norm_of (held_solved held.Damped (gather (take st.n order.now) (turned_by norm v.now diag.now)) (load st.n store.now))) }
     ensures seen_value { result.seen ≡ ranges (held_solved held.Damped (gather (take st.n order.now) (turned_by norm v.now diag.now)) (load st.n store.now)) }
 {
     let s = slope_by_damped(st, store, order, diag, norm, v, w);
@@ -98,8 +98,8 @@ pub(crate) fn lower_bound(
 ) -> Measure
     requires ready { Ready st store.now order.now }
     requires diag_len { (length diag.now ≡ st.n) × (length v.now ≡ st.n) × (length w.old ≡ st.n) }
-    ensures value_value { result.value ≡ cond (non_singular_of st.m st.n (load st.n store.now).upper) (newton fp radius (normOf (held_solved held.Zero (gather (take st.n order.now) (turned_by norm v.now diag.now)) (load st.n store.now)))) plus_zero }
-    ensures seen_value { result.seen ≡ cond (non_singular_of st.m st.n (load st.n store.now).upper) (ranges (held_solved held.Zero (gather (take st.n order.now) (turned_by norm v.now diag.now)) (load st.n store.now))) neitherOf }
+    ensures value_value { result.value ≡ cond (non_singular_of st.m st.n (load st.n store.now).upper) (newton fp radius (norm_of (held_solved held.Zero (gather (take st.n order.now) (turned_by norm v.now diag.now)) (load st.n store.now)))) plus_zero }
+    ensures seen_value { result.seen ≡ cond (non_singular_of st.m st.n (load st.n store.now).upper) (ranges (held_solved held.Zero (gather (take st.n order.now) (turned_by norm v.now diag.now)) (load st.n store.now))) neither_of }
 {
     if full_rank(st, store, order) {
         let s = slope_by_zero(st, store, order, diag, norm, v, w);

@@ -2,7 +2,7 @@
 // scaled step v has its number for each column. Only the scaled step is scattered in a trial, and the step of the answer at the end.
 ghost use Rattle.std.specs.Prelude.{◌≡◌, length};
 ghost use Rattle.leaves.specs.Number.{plus_zero};
-ghost use Rattle.leaves.specs.Norm.{norm as normOf, ranges};
+ghost use Rattle.leaves.specs.Norm.{norm as norm_of, ranges};
 ghost use Rattle.factor.specs.Room.{load, lay, emptied};
 ghost use Rattle.factor.specs.Solve.{non_singular_of};
 ghost use Rattle.factor.specs.PivotOrder.{lowered};
@@ -24,7 +24,7 @@ pub(crate) fn undamped(
 ) -> Measure
     requires ready { Ready st store.now order.now }
     requires diag_len { (length diag.now ≡ st.n) × (length v.old ≡ st.n) × (length w.old ≡ st.n) }
-    ensures value_value { result.value ≡ normOf v.new }
+    ensures value_value { result.value ≡ norm_of v.new }
     ensures v_after { v.new ≡ scaled_step (lent st order.now diag.now plus_zero store.now) (placed (lent st order.now diag.now plus_zero store.now) w.new) }
     ensures w_after { placed (lent st order.now diag.now plus_zero store.now) w.new ≡ undamped_step (lent st order.now diag.now plus_zero store.now) }
     ensures seen_value { result.seen ≡ ranges v.new }
@@ -48,7 +48,7 @@ pub(crate) fn damped(
 ) -> Measure
     requires ready { Ready st store.old order.now }
     requires diag_len { (length diag.now ≡ st.n) × (length v.old ≡ st.n) × (length w.old ≡ st.n) }
-    ensures value_value { result.value ≡ normOf v.new }
+    ensures value_value { result.value ≡ norm_of v.new }
     ensures v_after { v.new ≡ scaled_step (lent st order.now diag.now plus_zero store.old) (placed (lent st order.now diag.now plus_zero store.old) w.new) }
     ensures w_after { placed (lent st order.now diag.now plus_zero store.old) w.new ≡ damped_step (lent st order.now diag.now plus_zero store.old) lambda }
     ensures store_after { store.new ≡ lay (lowered (damped_rows (lent st order.now diag.now plus_zero store.old) lambda) (load st.n store.old)) }

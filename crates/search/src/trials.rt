@@ -1,13 +1,13 @@
 // Document 01, module 7: the trials.
 ghost use Rattle.std.specs.Prelude.{◌≡◌, length};
-ghost use Rattle.leaves.specs.Norm.{norm as normOf, ranges_of, either as either_of};
+ghost use Rattle.leaves.specs.Norm.{norm as norm_of, ranges_of, either as either_of};
 ghost use Rattle.factor.specs.Room.{load, emptied};
 ghost use Rattle.search.specs.declared.trust_region.Found.TheVariants as found;
 ghost use Rattle.search.specs.Problem.{placed, scaled_step};
 ghost use Rattle.search.specs.Run.{trials_from};
 ghost use Rattle.search.specs.Measured.{measured_bounds, measured_trials};
 ghost use Rattle.search.specs.Search.{concluded};
-ghost use Rattle.search.specs.inner.Read.{lent, Ready, with_step, Saw, unanswered, next_of, damped as dampedRun};
+ghost use Rattle.search.specs.inner.Read.{lent, Ready, with_step, Saw, unanswered, next_of, damped as damped_run};
 
 use crate::LMParameter;
 use crate::bounds::{Going, first_lambda, is_falling, is_within, next_of, raised_of, upper_bound};
@@ -97,10 +97,10 @@ pub(crate) fn bounded(
 ) -> Found
     requires ready { Ready st store.old order.now }
     requires diag_len { (length diag.now ≡ st.n) × (length v.old ≡ st.n) × (length w.old ≡ st.n) }
-    requires value_value { (start.value ≡ normOf v.old) × (v.old ≡ scaled_step (lent st order.now diag.now radius store.old) (placed (lent st order.now diag.now radius store.old) w.old)) }
-    ensures w_after { with_step result (placed (lent st order.now diag.now radius store.old) w.new) ≡ concluded 0 unanswered (dampedRun (lent st order.now diag.now radius store.old) lambda (placed (lent st order.now diag.now radius store.old) w.old)) }
+    requires value_value { (start.value ≡ norm_of v.old) × (v.old ≡ scaled_step (lent st order.now diag.now radius store.old) (placed (lent st order.now diag.now radius store.old) w.old)) }
+    ensures w_after { with_step result (placed (lent st order.now diag.now radius store.old) w.new) ≡ concluded 0 unanswered (damped_run (lent st order.now diag.now radius store.old) lambda (placed (lent st order.now diag.now radius store.old) w.old)) }
     ensures store_unchanged { emptied (load st.n store.new) ≡ emptied (load st.n store.old) }
-    ensures saw { Saw result (either_of start.seen (either_of (ranges_of (measured_bounds (lent st order.now diag.now radius store.old) (placed (lent st order.now diag.now radius store.old) w.old))) (ranges_of (measured_trials (lent st order.now diag.now radius store.old) (dampedRun (lent st order.now diag.now radius store.old) lambda (placed (lent st order.now diag.now radius store.old) w.old)))))) }
+    ensures saw { Saw result (either_of start.seen (either_of (ranges_of (measured_bounds (lent st order.now diag.now radius store.old) (placed (lent st order.now diag.now radius store.old) w.old))) (ranges_of (measured_trials (lent st order.now diag.now radius store.old) (damped_run (lent st order.now diag.now radius store.old) lambda (placed (lent st order.now diag.now radius store.old) w.old)))))) }
 {
     let norm = start.value;
     let fp = norm - radius;

@@ -1,6 +1,6 @@
 // Document 01, 'Refusal numbers, tested in this order': the tests of a sheet.
 ghost use Rattle.std.specs.Prelude.{◌≡◌, false, ◌+◌, ◌≤◌, length, take};
-ghost use Rattle.leaves.specs.Tests.{first_of, outside as outsideOf};
+ghost use Rattle.leaves.specs.Tests.{first_of, outside as outside_of};
 ghost use Rattle.sheet.specs.Sheet.{search, lasts, count_of, task_of};
 ghost use Rattle.sheet.specs.Tests.{unknown, task_tests, field_tests, number_tests};
 
@@ -24,7 +24,7 @@ fn unknown_call(h: Head) -> bool
 
 // How many numbers stand behind the head.
 pub(crate) fn count_of(h: Head) -> usize
-    requires { outsideOf h.m h.n ≡ false }
+    requires { outside_of h.m h.n ≡ false }
     ensures { (result ≡ count_of h) × (result ≤ 2194) }
 {
     let m = h.m;
@@ -85,7 +85,7 @@ fn check_task(call: u8, n: usize, rest: &[f64]) -> u8
 // Tests 6 and 7.
 pub(crate) fn check_numbers(h: Head, xs: &[f64]) -> u8
     requires xs_len { length xs.now ≡ count_of h }
-    requires n_value { outsideOf h.m h.n ≡ false }
+    requires n_value { outside_of h.m h.n ≡ false }
     ensures { result ≡ first_of (number_tests h xs.now) }
 {
     let m = h.m;

@@ -11,12 +11,12 @@ use Rattle.calls.specs.Rescale.{marked_scaling_tests, frozen_entries, marked_sca
 use Rattle.calls.specs.Search.{marked_search}
 use Rattle.calls.specs.Solves.{marked_zero, marked_damped}
 use Rattle.calls.specs.Tests.{continues}
-use Rattle.demands.specs.Calls.{perform_store as performBasic, run, latest}
+use Rattle.demands.specs.Calls.{perform_store as perform_basic, run, latest}
 use Rattle.demands.specs.History.{perform}
 use Rattle.demands.specs.Marked.{perform_marked, tests_marked, reduced_call, answered_out, store_back, perform_under, reduced_run}
 
 unfoldable pub opened : Unit {0}
-unfolding measures search performBasic run latest perform
+unfolding measures search perform_basic run latest perform
 opened = tt
 
 -- and with those of the calls with marks

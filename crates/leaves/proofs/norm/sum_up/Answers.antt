@@ -5,7 +5,7 @@ use borrow.Author.Rules.{rules}
 use lib.Dec.{le→leb}
 use lib.ListN.{length}
 use lib.Ieee.{in_float, of_bits, round}
-use Rattle.leaves.specs.Norm.{agiant as agiantOf, rgiant}
+use Rattle.leaves.specs.Norm.{agiant as agiant_of, rgiant}
 use Rattle.leaves.proofs.Norms.{accumulate_step, accumulate-end, norm_is}
 use Rattle.leaves.proofs.Flags.{ranges_are}
 use Rattle.leaves.proofs.norm.sum_up.Goals as goal
@@ -15,7 +15,7 @@ unfolding in_float
 int_to_float-agiant c = le→leb (length c.args.v.now) (2 ^ 53) (omega arith)
 
 pub loop-i-init : goal.loop-i-init
-unfolding agiantOf rgiant round of_bits
+unfolding agiant_of rgiant round of_bits
 loop-i-init c = (search rules, search rules, refl, refl)
 
 pub loop-i-preserved : goal.loop-i-preserved

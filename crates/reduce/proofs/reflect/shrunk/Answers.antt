@@ -1,8 +1,8 @@
 use lib.Ieee.{of_bits}
 use Rattle.leaves.specs.Number.{square_of}
-use Rattle.reduce.specs.Reduction.{shrunk as shrunkOf}
+use Rattle.reduce.specs.Reduction.{shrunk as shrunk_of}
 use Rattle.reduce.proofs.reflect.shrunk.Goals as goal
 
 pub returns : goal.returns
-unfolding of_bits square_of shrunkOf
-returns c = rw (c.sqrt.ensures, c.max.ensures, shrunkOf)
+unfolding of_bits square_of shrunk_of
+returns c = rw (c.sqrt.ensures, c.max.ensures, shrunk_of)
