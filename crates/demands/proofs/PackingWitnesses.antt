@@ -13,7 +13,7 @@ use Rattle.factor.specs.declared.state.Held.TheVariants as held
 use Rattle.factor.specs.declared.state.State.{State as Plain}
 use Rattle.calls.specs.State.{marked, whole}
 use Rattle.calls.specs.Factoring.{MarkedFactored, marked_factoring}
-use Rattle.packing.specs.Packing.{PutAway, put_away, pack_call, unpack_call}
+use Rattle.packing.specs.Packing.{PutAway, pack_call, unpack_call}
 use Rattle.packing.specs.inner.Opened.{opened as packing}
 use Rattle.demands.specs.Calls.{zero_solve, damped_solve, held_solve, held_product, done, run}
 use Rattle.demands.specs.History.{Call, base, Outcome, of_base}

@@ -1,5 +1,5 @@
 -- 01, modules 2 and 3, 'Refusal numbers' and 'Lent room': R and the transformed residuals of a reduction, and factoring as its callers see it.
-use Rattle.std.specs.Prelude.{ℕ, zero, suc, ◌+◌, ◌-◌, ◌*◌, Bool, true, false, cond, ◌&&◌, ◌||◌, not, List, [], ◌∷◌, ◌++◌, map, eqb, ltb, length, take, drop, Float}
+use Rattle.std.specs.Prelude.{ℕ, zero, suc, ◌-◌, ◌*◌, Bool, true, false, cond, ◌&&◌, ◌||◌, not, List, [], ◌∷◌, ◌++◌, map, eqb, ltb, length, take, drop, Float}
 use Rattle.leaves.specs.Norm.{norm, ranges_of}
 use Rattle.leaves.specs.declared.norm.Ranges.{Ranges}
 use Rattle.leaves.specs.Loop.{count_from}
@@ -13,7 +13,6 @@ use Rattle.reduce.specs.Reduction.{Reduction, reduction_of, measured}
 use Rattle.factor.specs.declared.state.Held.TheVariants as held
 use Rattle.factor.specs.declared.state.State.{State}
 use Rattle.factor.specs.Outcome.{written}
-use Rattle.factor.specs.Tests.{below}
 
 -- R: column k has the first k of the reduced column and then the diagonal. R's rows from m on are 0.
 unfoldable pub upper_column : ℕ → ℕ → List Float → Float → List Float

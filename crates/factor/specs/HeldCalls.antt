@@ -1,5 +1,5 @@
 -- 01, 'Refusal numbers' and 'Lent room': the held calls as their callers see them.
-use Rattle.std.specs.Prelude.{ℕ, ◌+◌, min, true, false, List, [], ◌∷◌, ◌++◌, eqb, length, take, Float}
+use Rattle.std.specs.Prelude.{ℕ, min, true, false, List, [], ◌∷◌, ◌++◌, eqb, length, take, Float}
 use Rattle.leaves.specs.Reply.{answered, refused}
 use Rattle.leaves.specs.Tests.{first_of, all_finite}
 use Rattle.factor.specs.Room.{Room, load, lay, rested}

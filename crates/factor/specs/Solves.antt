@@ -1,5 +1,5 @@
 -- 01, modules 4 and 5, 'Refusal numbers' and 'Lent room': the solves as their callers see them.
-use Rattle.std.specs.Prelude.{ℕ, ◌+◌, min, true, false, List, [], ◌∷◌, ◌++◌, eqb, length, take, Float}
+use Rattle.std.specs.Prelude.{ℕ, min, true, false, List, [], ◌∷◌, ◌++◌, eqb, length, take, Float}
 use Rattle.leaves.specs.Reply.{answered, refused}
 use Rattle.factor.specs.State.{with_held}
 use Rattle.leaves.specs.Tests.{first_of, all_finite}

@@ -1,5 +1,5 @@
 -- 01, 'Refusal numbers, tested in this order', as definitions over values. A call lists the tests whose subject it has.
-use Rattle.std.specs.Prelude.{ℕ, ◌+◌, min, Bool, true, not, ◌&&◌, ◌||◌, List, [], ◌∷◌, ◌++◌, ltb, eqb, length, take, Float}
+use Rattle.std.specs.Prelude.{ℕ, min, Bool, true, not, ◌&&◌, ◌||◌, List, [], ◌∷◌, ◌++◌, ltb, eqb, length, take, Float}
 use Rattle.std.specs.Float.Ieee.{le, lt}
 use Rattle.leaves.specs.Number.{is_finite, plus_zero}
 use Rattle.factor.specs.State.{is_empty, is_nothing, store_need}

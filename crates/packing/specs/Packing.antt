@@ -1,5 +1,5 @@
 -- 02, #107: a factored problem put away in a small room, and brought back as after factoring. The room holds no state: its owner keeps that beside it.
-use Rattle.std.specs.Prelude.{ℕ, zero, suc, ◌+◌, ◌*◌, ◌/◌, min, true, false, not, ◌||◌, List, [], ◌∷◌, ◌++◌, eqb, ltb, length, take, drop, Float}
+use Rattle.std.specs.Prelude.{ℕ, zero, suc, ◌+◌, ◌*◌, ◌/◌, min, true, false, not, List, [], ◌∷◌, ◌++◌, eqb, ltb, length, take, drop, Float}
 use Rattle.leaves.specs.Reply.{Reply, answered, refused}
 use Rattle.leaves.specs.Square.{zeros}
 use Rattle.leaves.specs.Tests.{Test, first_of, all_finite}

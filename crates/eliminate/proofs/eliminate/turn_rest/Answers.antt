@@ -1,4 +1,4 @@
-use Prim.Native.Nat.{◌+◌, ◌-◌, ◌≤◌, ◌<◌, ℕ}
+use Prim.Native.Nat.{◌+◌, ◌<◌, ℕ}
 use mathlib.Core.Path.{◌≡◌, refl}
 use native.Mathlib.Omega.{arith}
 use mathlib.Core.List.{List}
@@ -6,7 +6,7 @@ use lib.ListN.{length, get_or, set, length-set}
 use lib.Ieee.{Float, nan}
 use Rattle.eliminate.specs.declared.eliminate.Rotation.{Rotation}
 use Rattle.eliminate.specs.Eliminate.{turned, left, turned_all, left_all}
-use Rattle.leaves.proofs.Folds.{front, front_turn, front_end}
+use Rattle.leaves.proofs.Folds.{front_turn, front_end}
 use Rattle.eliminate.proofs.Rotations.{turned-length, left-length, turned_at_lem, left_at, front_at}
 use Rattle.eliminate.proofs.eliminate.turn_rest.Goals as goal
 use Rattle.eliminate.proofs.eliminate.turn_rest.Invariants.{Turning}

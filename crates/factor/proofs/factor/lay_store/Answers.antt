@@ -25,5 +25,8 @@ returns c =
     let h = c.requires.n_in_bounds in
     let la = c.lay_out.auto.square ∙ length-take-le nn s (omega arith) in
     let lq = ap length c.take_rhs.ensures ∙ transformed_long g.n _ in
-    record { store_after = store_laid g.n s c.lay_out.new.square c.take_rhs.new.qtb h la lq _ (p - nn) (q + 2 * g.n - q) (omega arith) (omega arith) c.fill.ensures
-          ∙ rw (c.lay_out.ensures, c.take_rhs.ensures); n_len = sym (ap length c.lay_out.ensures) ∙ la }
+    record {
+      store_after = store_laid g.n s c.lay_out.new.square c.take_rhs.new.qtb h la lq _ (p - nn) (q + 2 * g.n - q) (omega arith) (omega arith) c.fill.ensures
+          ∙ rw (c.lay_out.ensures, c.take_rhs.ensures);
+      n_len = sym (ap length c.lay_out.ensures) ∙ la;
+    }

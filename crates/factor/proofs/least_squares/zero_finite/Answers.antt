@@ -1,7 +1,6 @@
 use mathlib.Core.Path.{refl, sym, ◌∙◌}
 use borrow.Author.Rules.{rules}
 use lib.ListN.{take}
-use borrow.Author.Tests.{not-true, not-false}
 use Rattle.factor.proofs.Damped.{scattered, finite_of}
 use Rattle.factor.proofs.least_squares.zero_finite.Goals as goal
 

@@ -1,4 +1,3 @@
-use Prim.Native.Nat.{◌-◌}
 use mathlib.Core.Path.{sym, ◌∙◌}
 use lib.ListN.{length}
 use Rattle.factor.proofs.pivoted_qr.Factorings.{factoring-refused, factoring-answered, factoring_broken}

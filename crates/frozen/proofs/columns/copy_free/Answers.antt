@@ -74,26 +74,26 @@ loop-left-preserved c =
     rw c.next_of-x.ensures
     (elim c.if-x-lt32768.branch [
       | then-x-lt32768 w ↦ let k = column_counted g.m l.left l.x t w.if-x-lt32768.true in
-    let y = w.copy_of.new.y in
-    let e : l.a + g.m - l.a ≡ g.m = omega arith in
-    let d : y ≡ take g.m (drop l.a g.src.now) = rw e at w.copy_of.ensures in
-    let z : length y ≡ g.m = ap length w.copy_of.ensures ∙ (mid_len l.a (l.a + g.m) g.src.now (search rules) ∙ e) in
-    let p = lent l.b (l.b + g.m) y l.dst (omega arith) in
-    rw (w.dst-is, w.b-is) (
-      b,
-      search rules,
-      omega arith,
-      ap length p ∙ (splice_length l.b (l.b + g.m) y l.dst (omega arith) (search rules) ∙ l.invariant.3),
-      column_copied g.m l.left l.x l.a l.b g.src.now l.dst y _ t w.if-x-lt32768.true (search rules) z d ∙ l.invariant.4,
-    )
+          let y = w.copy_of.new.y in
+          let e : l.a + g.m - l.a ≡ g.m = omega arith in
+          let d : y ≡ take g.m (drop l.a g.src.now) = rw e at w.copy_of.ensures in
+          let z : length y ≡ g.m = ap length w.copy_of.ensures ∙ (mid_len l.a (l.a + g.m) g.src.now (search rules) ∙ e) in
+          let p = lent l.b (l.b + g.m) y l.dst (omega arith) in
+          rw (w.dst-is, w.b-is) (
+            b,
+            search rules,
+            omega arith,
+            ap length p ∙ (splice_length l.b (l.b + g.m) y l.dst (omega arith) (search rules) ∙ l.invariant.3),
+            column_copied g.m l.left l.x l.a l.b g.src.now l.dst y _ t w.if-x-lt32768.true (search rules) z d ∙ l.invariant.4,
+          )
       | else-x-lt32768 w ↦ let k = column_skipped g.m l.left l.x t w.if-x-lt32768.false in
-    rw (w.dst-is, w.b-is) (
-      b,
-      search rules,
-      omega arith,
-      l.invariant.3,
-      ap (λ (s : List Float). take l.b l.dst ++ s) (column_passed g.m l.left l.x l.a g.src.now t w.if-x-lt32768.false) ∙ l.invariant.4,
-    )
+          rw (w.dst-is, w.b-is) (
+            b,
+            search rules,
+            omega arith,
+            l.invariant.3,
+            ap (λ (s : List Float). take l.b l.dst ++ s) (column_passed g.m l.left l.x l.a g.src.now t w.if-x-lt32768.false) ∙ l.invariant.4,
+          )
     ])
 
 pub returns : goal.returns

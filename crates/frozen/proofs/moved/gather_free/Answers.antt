@@ -41,24 +41,24 @@ loop-k-preserved c =
     rw c.next_of-x.ensures
     (elim c.if-x-lt32768.branch [
       | then-x-lt32768 w ↦ let s = some_free (g.n - l.k) l.x (omega arith) w.if-x-lt32768.true in
-    let f = c.free_count.ensures in
-    let q : l.j < length l.dst = omega arith in
-    rw (w.dst-is, w.j-is) (
-      b,
-      search rules,
-      simp length-set l.invariant.2,
-      rw (← e) (count_free (g.n - l.k) l.x l.j (omega arith) w.if-x-lt32768.true ∙ l.invariant.3),
-      drop_next l.j _ l.dst g.dst.now l.invariant.4,
-      gather_free g.n l.k l.x h g.src.now l.dst l.j w.if-x-lt32768.true p q ∙ l.invariant.5,
-    )
+          let f = c.free_count.ensures in
+          let q : l.j < length l.dst = omega arith in
+          rw (w.dst-is, w.j-is) (
+            b,
+            search rules,
+            simp length-set l.invariant.2,
+            rw (← e) (count_free (g.n - l.k) l.x l.j (omega arith) w.if-x-lt32768.true ∙ l.invariant.3),
+            drop_next l.j _ l.dst g.dst.now l.invariant.4,
+            gather_free g.n l.k l.x h g.src.now l.dst l.j w.if-x-lt32768.true p q ∙ l.invariant.5,
+          )
       | else-x-lt32768 w ↦ rw (w.dst-is, w.j-is) (
-      b,
-      search rules,
-      l.invariant.2,
-      rw (← e) (count_frozen (g.n - l.k) l.x l.j (omega arith) w.if-x-lt32768.false ∙ l.invariant.3),
-      l.invariant.4,
-      gather_frozen g.n l.k l.x h g.src.now l.dst l.j w.if-x-lt32768.false p ∙ l.invariant.5,
-    )
+        b,
+        search rules,
+        l.invariant.2,
+        rw (← e) (count_frozen (g.n - l.k) l.x l.j (omega arith) w.if-x-lt32768.false ∙ l.invariant.3),
+        l.invariant.4,
+        gather_frozen g.n l.k l.x h g.src.now l.dst l.j w.if-x-lt32768.false p ∙ l.invariant.5,
+      )
     ])
 
 pub returns : goal.returns

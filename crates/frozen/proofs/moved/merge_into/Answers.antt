@@ -41,22 +41,22 @@ loop-k-preserved c =
     rw c.next_of-x.ensures
     (elim c.if-x-lt32768.branch [
       | then-x-lt32768 w ↦ let s = some_free (g.n - l.k) l.x (omega arith) w.if-x-lt32768.true in
-    let f = c.free_count.ensures in
-    let q : l.j < length g.src.now = omega arith in
-    rw (w.dst-is, w.j-is) (
-      b,
-      search rules,
-      simp length-set l.invariant.2,
-      rw (← e) (count_free (g.n - l.k) l.x l.j (omega arith) w.if-x-lt32768.true ∙ l.invariant.3),
-      merge_free g.n l.k l.x h g.src.now l.dst l.j w.if-x-lt32768.true p q ∙ l.invariant.4,
-    )
+          let f = c.free_count.ensures in
+          let q : l.j < length g.src.now = omega arith in
+          rw (w.dst-is, w.j-is) (
+            b,
+            search rules,
+            simp length-set l.invariant.2,
+            rw (← e) (count_free (g.n - l.k) l.x l.j (omega arith) w.if-x-lt32768.true ∙ l.invariant.3),
+            merge_free g.n l.k l.x h g.src.now l.dst l.j w.if-x-lt32768.true p q ∙ l.invariant.4,
+          )
       | else-x-lt32768 w ↦ rw (w.dst-is, w.j-is) (
-      b,
-      search rules,
-      l.invariant.2,
-      rw (← e) (count_frozen (g.n - l.k) l.x l.j (omega arith) w.if-x-lt32768.false ∙ l.invariant.3),
-      merge_frozen g.n l.k l.x h g.src.now l.dst l.j w.if-x-lt32768.false p ∙ l.invariant.4,
-    )
+        b,
+        search rules,
+        l.invariant.2,
+        rw (← e) (count_frozen (g.n - l.k) l.x l.j (omega arith) w.if-x-lt32768.false ∙ l.invariant.3),
+        merge_frozen g.n l.k l.x h g.src.now l.dst l.j w.if-x-lt32768.false p ∙ l.invariant.4,
+      )
     ])
 
 pub returns : goal.returns

@@ -37,7 +37,10 @@ returns c =
     let first = grid g.m g.n g.bench.now in
     let col = drop g.j (get_or first g.j []) in
     let there = sym (ap (drop g.j) (get_or-take g.n first g.j [] p.j_lt_n)) in
-    record { steps = λ o. let r = under_way g.m g.n g.bench.now g.diag.now g.work.now o in
+    record {
+      steps = λ o. let r = under_way g.m g.n g.bench.now g.diag.now g.work.now o in
           last_column g.n (grid g.m g.n b) _ (reflect_from g.j axis (get_or (grid g.m g.n b) g.n [])) _ _ o (columns-length g.m (suc g.n) b) c.reflect_column.ensures
           ∙ swept_by g.n g.j a.result axis r _ p.j_lt_n (x.ensures.steps o)
-          ∙ reflected_by g.n g.j g.s a.result axis col r there a.ensures.value a.ensures.axis_after; sees = λ o. x.ensures.sees o ∙ reflected_sees g.n g.j g.s a.result axis col (under_way g.m g.n g.bench.now g.diag.now g.work.now o) g.seen there a.ensures.value a.ensures.axis_after }
+          ∙ reflected_by g.n g.j g.s a.result axis col r there a.ensures.value a.ensures.axis_after;
+      sees = λ o. x.ensures.sees o ∙ reflected_sees g.n g.j g.s a.result axis col (under_way g.m g.n g.bench.now g.diag.now g.work.now o) g.seen there a.ensures.value a.ensures.axis_after;
+    }

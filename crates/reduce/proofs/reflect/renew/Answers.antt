@@ -26,8 +26,11 @@ returns-then-stale c =
     let x = grid_read g.m (suc g.n) g.bench.now g.k g.j q.result q.ensures.value (omega arith) (omega arith) in
     let t = tail_part g.m (suc g.n) g.k (suc g.j) g.bench.now (q.result + 1) (q.result + (g.m - g.j) - (q.result + 1)) (omega arith) (omega arith) (omega arith) in
     let old = sym c.stale.ensures ∙ c.if-stale.true in
-    record { work_after = renewed_anew g.j g.k col g.diag.now g.work.now _ c.shrunk-s.result _ c.if-d.false x c.shrunk-s.ensures old (c.norm_of-z.ensures.norm_value ∙ ap norm t); value = c.either.ensures
-          ∙ remeasured_anew g.j g.k col g.diag.now g.work.now g.seen _ c.shrunk-s.result _ c.if-d.false x c.shrunk-s.ensures old (c.norm_of-z.ensures.seen_value ∙ ap ranges t) }
+    record {
+      work_after = renewed_anew g.j g.k col g.diag.now g.work.now _ c.shrunk-s.result _ c.if-d.false x c.shrunk-s.ensures old (c.norm_of-z.ensures.norm_value ∙ ap norm t);
+      value = c.either.ensures
+          ∙ remeasured_anew g.j g.k col g.diag.now g.work.now g.seen _ c.shrunk-s.result _ c.if-d.false x c.shrunk-s.ensures old (c.norm_of-z.ensures.seen_value ∙ ap ranges t);
+    }
 
 pub returns-else-stale : goal.returns-else-stale
 unfolding of_bits

@@ -1,16 +1,12 @@
 use Prim.Native.Nat.{ℕ, suc, ◌+◌, ◌-◌, ◌≤◌}
 use mathlib.Core.Path.{◌≡◌, refl, sym, ap, ◌∙◌}
-use mathlib.Core.Bool.{true}
-use mathlib.Core.List.{List, [], ◌∷◌}
+use mathlib.Core.List.{List}
 use native.Mathlib.Numerals.{add-one}
 use native.Mathlib.Omega.{arith}
-use borrow.Author.Tests.{not-false}
 use lib.ListN.{length}
 use lib.Ieee.{Float}
-use Rattle.leaves.specs.Norm.{norm, either, ranges, ranges_of}
+use Rattle.leaves.specs.Norm.{norm, ranges}
 use Rattle.leaves.specs.Number.{plus_zero}
-use Rattle.leaves.specs.declared.norm.Ranges.{Ranges}
-use Rattle.leaves.specs.Number.{is_finite}
 use Rattle.factor.specs.Room.{load, lay, emptied}
 use Rattle.factor.specs.PivotOrder.{lowered}
 use Rattle.factor.specs.declared.state.State.{State}
@@ -18,8 +14,6 @@ use Rattle.search.specs.declared.bounds.Going.{Going}
 use Rattle.search.specs.declared.vectors.Measure.{Measure}
 use Rattle.search.specs.Bounds.{raised}
 use Rattle.search.specs.Problem.{Problem, placed, scaled_step, damped_step, damped_rows}
-use Rattle.search.specs.Run.{Run}
-use Rattle.search.specs.Measured.{measured_trials}
 use Rattle.search.specs.Search.{problem_of}
 use Rattle.search.specs.inner.Read.{Ready, unanswered, next_of, bare}
 use Rattle.search.proofs.Trying.{Tried, at_lambda, at_norm, at_ten, at_within, at_falling, at_correction, goes_on, again, next_same, mine, told}

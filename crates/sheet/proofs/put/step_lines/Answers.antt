@@ -1,7 +1,6 @@
 use borrow.Author.Rules.{rules}
 use native.Mathlib.Omega.{arith}
 use mathlib.Core.Path.{refl, ◌∙◌}
-use Prim.Native.Nat.{◌-◌}
 use Rattle.sheet.proofs.Texts.{step_turn, step_end}
 use Rattle.sheet.proofs.put.step_lines.Goals as goal
 

@@ -1,5 +1,4 @@
 use native.Mathlib.Nat.{add-zero}
-use Prim.Native.Nat.{◌-◌}
 use mathlib.Core.Path.{refl}
 use native.Mathlib.Omega.{arith}
 use lib.ListN.{length-set}

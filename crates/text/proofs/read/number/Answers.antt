@@ -1,5 +1,4 @@
 use Rattle.text.proofs.read.Reading.{is_small_lem, number_stop, number_over, number_go, number_end}
-use Prim.Native.Nat.{◌-◌}
 use mathlib.Core.Path.{refl, sym, ◌∙◌}
 use native.Mathlib.Omega.{arith}
 use Rattle.text.proofs.read.number.Goals as goal
