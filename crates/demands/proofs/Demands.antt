@@ -2,7 +2,7 @@
 -- They are over the definitions that the contracts of the public functions cite: each contract is one equation with its definition. `proofs/Ties.antt`
 -- says for each function that takes a state without marks, for factoring and for a sheet, that whatever its contract lets it leave (answer, state and every lent
 -- slice) is what `perform c st order store` gives, `factor_call` or `sheet_call`. Beside each contract stands a theorem that no second outcome fits it
--- (`NAME-one-outcome`). The words that the statements use stand in `specs/` of the crates that they speak of (`tools/believed` lists them). Assumes nothing.
+-- (`NAME-one_outcome`). The words that the statements use stand in `specs/` of the crates that they speak of (`tools/believed` lists them). Assumes nothing.
 use Prim.Native.Nat.{ℕ, ◌<◌, ◌≤◌}
 use mathlib.Core.Path.{◌≡◌, sym, ◌∙◌}
 use mathlib.Core.Bool.{true, false}

@@ -154,7 +154,7 @@ pub reader_mul_qt_b_is : (κs : Lfts 2) (a : Args reader-mul-qt-b.signature κs)
 unfolding perform_marked
 reader_mul_qt_b_is κs a r s order p = ap shown_by p
 
--- These three are walked by hand and have clauses in place of a `Post` (`Says-NAME` is read off them: `NAME-is-the-clause` in `OneReader`): in every
+-- Of these three the clauses themselves are read, in place of a `Post` (`Says-NAME` is read off them: `NAME_is_the_clause` in `OneReader`): in every
 -- model what the source's `ensures` says entails the same.
 module _ {M : Type 1} {𝓤 : Ura M} (𝓛 : Logic 𝓤) (mem : Memory → SProp 𝓤) (run : Routine → Fun 𝓤) where
   pub reader_new_ensures : (κs : Lfts 1) (a : Args reader-new.signature κs) (r : CholeskyFactor) (s : AtExit reader-new.ended κs)

@@ -1,6 +1,6 @@
--- No second outcome fits a contract of the reader. `Post` is what the source's `ensures` says; the reader's maker and its two thin calls
--- are proved by hand, so that Rattle reads no `Post` of them, and there `NAME-is-the-clause` ties `Says-NAME` to the contract: in every
--- model the `ensures` of the source is that fact and nothing else. Assumes nothing.
+-- No second outcome fits a contract of the reader. `Post` is what the source's `ensures` says. Of the reader's maker and its two
+-- thin calls, which take or give a struct that refers to a slice, the theorems speak of the clauses themselves: `NAME_is_the_clause` ties
+-- `Says-NAME` to the contract: in every model the `ensures` of the source is that fact and nothing else. Assumes nothing.
 use mathlib.Core.Path.{◌≡◌, refl, sym, ◌∙◌}
 use seplogic.Ra.Ura.{Ura}
 use base.Logic.{SProp}
@@ -29,7 +29,7 @@ use Rattle.reader.specs.contracts.reader.mul_plain.{signature as mul-plain-signa
 use Rattle.reader.proofs.reader.mul_plain.Reads as mul-plain
 use Rattle.reader.proofs.reader.mul_plain.Kinds as mul-plain-kinds
 
--- ---- by hand: the maker
+-- ---- the maker
 abbrev pub Says-new : (κs : Lfts 1) → Args new.signature κs → CholeskyFactor → AtExit new.ended κs → Type 0
 Says-new κs a r s = r ≡ record { square = a.0; state = a.1.0 }
 
@@ -40,7 +40,7 @@ new_is_the_clause 𝓛 mem run κs a r s = refl
 pub new-one_outcome : (κs : Lfts 1) (a : Args new.signature κs) (r₁ r₂ : CholeskyFactor) (s₁ s₂ : AtExit new.ended κs) → Says-new κs a r₁ s₁ → Says-new κs a r₂ s₂ → r₁ ≡ r₂
 new-one_outcome κs a r₁ r₂ s₁ s₂ p q = p ∙ sym q
 
--- ---- by hand: the two thin calls
+-- ---- the two thin calls
 abbrev pub Says-solve : (κs : Lfts 4) → Args solve.signature κs → Done → AtExit solve.ended κs → Type 0
 Says-solve κs a r s =
     read (done_of r) s.1.1.1.0.now
