@@ -3,8 +3,9 @@
 // One byte more is read than the longest sheet has, 3 + 8 · (128 · 16 + 128 + 16 + 2) of them: a longer input is then refused by its length,
 // as the whole of it would be (`overlong` in crates/sheet/proofs/Overlong.antt). A failed read counts as the end (D63 of docs/DECISIONS.md).
 //
-// Proved: it is safe and ends; what it is handed and what it prints are one equation with a definition (`fit_lines`). No contract says which
-// bytes come from standard input or reach standard output. A write that fails is passed over.
+// Proved: it is safe and ends; what it is handed and what it prints are one equation with a definition (`fit_lines`). Assumed, by std: the
+// contracts of the C functions `read` and `write` and of the number of an error. They do not say which bytes come from standard input or
+// reach standard output. A write that fails is passed over.
 #![tactic(auto)]
 
 ghost use Rattle.std.specs.Prelude.{◌≡◌, length};
@@ -34,7 +35,8 @@ fn show(screen: Stdout, text: &[u8], n: usize) {
 fn main(rt: HostRuntime) {
     let mut room = sheet_room();
     let mut text = text_room();
-    let n = lines::input::full(rt.stdin(), &mut room);
+    let mut input = rt.stdin();
+    let n = lines::input::full(&mut input, &mut room);
     let p = sheet::lines::fit_lines(&room[..n], &mut text);
     match p {
         Place::At(k) => show(rt.stdout(), &text, k),

@@ -4,8 +4,9 @@
 // hex digits, NaN as 7FF8000000000000. The answer is `ok` and its values, or `refused` and document 01's number. A line that
 // does not parse counts as one that differs.
 //
-// Proved: every function is safe and ends. That it compares rightly is shown by runs, not proved. No contract says which bytes come from
-// standard input or reach standard output. A write that fails is passed over.
+// Proved: every function is safe and ends. Assumed, by std: the contracts of the C functions `read` and `write` and of the number of an
+// error. They do not say which bytes come from standard input or reach standard output. That it compares rightly is shown by runs, not
+// proved. A write that fails is passed over.
 #![tactic(auto)]
 
 mod answer;

@@ -1,12 +1,15 @@
-// Standard input, as much of it as a lent buffer holds.
+// As much of an input as a lent buffer holds.
+ghost use Rattle.std.specs.Prelude.{take};
+ghost use Rattle.std.specs.Io.KnownBytes.{Consumes};
 ghost use Rattle.text.specs.inner.Part.{Part};
 
-use std::io::{Read, Stdin};
+use std::io::Read;
 
-// Reads until buf is full, the input ends or a read fails, and answers how many bytes it put at the start of buf. Which bytes they are no
-// contract can say. Refuses nothing.
-pub fn full(mut input: Stdin, buf: &mut [u8]) -> usize
-    ensures { Part result buf.new }
+// Reads until buf is full, the input ends or a read fails, and answers how many bytes it put at the start of buf: those that the input
+// has lost, where it says which it has. Refuses nothing.
+pub fn full<R: Read>(input: &mut R, buf: &mut [u8]) -> usize
+    ensures bytes { Consumes (R.remaining input.old) (R.remaining input.new) (take result buf.new) }
+    ensures part { Part result buf.new }
 {
     let mut done: usize = 0;
     while done < buf.len() {

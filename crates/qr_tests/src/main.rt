@@ -5,8 +5,8 @@
 // What qr.rs looks at and no call shows is left out, and each test says so: the reflection vectors below R's diagonal, and the
 // right-hand side inside a damped solve. Matrices stand here column by column.
 //
-// Proved: every function is safe and ends. That the tests pass is shown by the run. No contract says which bytes reach standard output. A
-// write that fails is passed over.
+// Proved: every function is safe and ends. Assumed, by std: the contracts of the C function `write` and of the number of an error. They do
+// not say which bytes reach standard output. That the tests pass is shown by the run. A write that fails is passed over.
 #![tactic(auto)]
 
 mod damped;

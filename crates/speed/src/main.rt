@@ -7,8 +7,9 @@
 // zero, which the first column answers; 7 factors and packs into a room of its own; 8 does that and unpacks. `tools/speed` runs it under a
 // counter of instructions beside MINPACK on the same problems.
 //
-// Proved: every function is safe and ends. The checksum is compared with the oracle's. No contract says which bytes come from standard
-// input or reach standard output. A write that fails is passed over.
+// Proved: every function is safe and ends. Assumed, by std: the contracts of the C functions `read` and `write` and of the number of an
+// error. They do not say which bytes come from standard input or reach standard output. The checksum is compared with the oracle's. A write
+// that fails is passed over.
 #![tactic(auto)]
 
 mod away;
@@ -19,6 +20,7 @@ mod script;
 
 fn main(rt: HostRuntime) {
     let mut text = room::text();
-    let n = lines::input::full(rt.stdin(), &mut text);
+    let mut input = rt.stdin();
+    let n = lines::input::full(&mut input, &mut text);
     script::run(rt.stdout(), &text[..n]);
 }
