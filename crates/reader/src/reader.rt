@@ -12,7 +12,7 @@ use calls::state::State;
 use leaves::reply::Done;
 
 // The lent store from its square on, and the state of the problem that it holds.
-#[derive(Drop)]
+#[derive(Clone, Copy)]
 pub struct CholeskyFactor<'a> {
     pub square: &'a [f64],
     pub state: State,

@@ -92,7 +92,7 @@ do210 n r sdiag (suc turns) j wa1 =
 unfoldable pub newton_step : (List Float → Float) → Given → Float → List Float → Float
 newton_step enorm a fp wa1 = let temp = enorm wa1 in div binary64 (div binary64 (div binary64 fp a.delta) temp) temp
 
--- 120: parl = zero; if (nsing.lt. n) go to 120; else the Newton step
+-- 120: parl = zero; if (nsing .lt. n) go to 120; else the Newton step
 unfoldable pub parl_of : (List Float → Float) → Given → List Float → Float → Float → Float
 parl_of enorm a wa2 dxnorm fp = cond (ltb (nsing_of a) a.n) plus_zero (newton_step enorm a fp (forward [] a.r (newton_side a wa2 dxnorm)))
 
@@ -102,11 +102,11 @@ gradient a [] ls = []
 gradient a (c ∷ cs) [] = []
 gradient a (c ∷ cs) (l ∷ ls) = div binary64 (dot_of c (take (length c) a.qtb)) (get_or a.diag l nan) ∷ gradient a cs ls
 
--- paru = gnorm/delta; if (paru.eq. zero) paru = dwarf/dmin1(delta,p1)
+-- paru = gnorm/delta; if (paru .eq. zero) paru = dwarf/dmin1(delta,p1)
 unfoldable pub paru_of : Float → Given → Float → Float
 paru_of dwarf a gnorm = let paru = div binary64 gnorm a.delta in cond (eq paru plus_zero) (div binary64 dwarf (min_of a.delta p1)) paru
 
--- par = dmax1(par,parl); par = dmin1(par,paru); if (par.eq. zero) par = gnorm/dxnorm
+-- par = dmax1(par,parl); par = dmin1(par,paru); if (par .eq. zero) par = gnorm/dxnorm
 unfoldable pub par_of : Float → Float → Float → Float → Float → Float
 par_of par parl paru gnorm dxnorm = let inside = min_of (max_of par parl) paru in cond (eq inside plus_zero) (div binary64 gnorm dxnorm) inside
 
@@ -126,7 +126,7 @@ pub record Tried : Type 0 where
   pub dxnorm : Float
   pub fp : Float
 
--- 150 to the test: if (par.eq. zero) par = dmax1(dwarf,p001*paru); 160: wa1(j) = dsqrt(par)*diag(j); qrsolv; dxnorm; fp = dxnorm - delta
+-- 150 to the test: if (par .eq. zero) par = dmax1(dwarf,p001*paru); 160: wa1(j) = dsqrt(par)*diag(j); qrsolv; dxnorm; fp = dxnorm - delta
 unfoldable pub evaluated : (List Float → Float) → Float → Given → Before → Tried
 evaluated enorm dwarf a b =
     let par = cond (eq b.par plus_zero) (max_of dwarf (mul binary64 p001 b.paru)) b.par in
@@ -136,21 +136,21 @@ evaluated enorm dwarf a b =
     let dxnorm = enorm wa2 in
     record { par = par; solved = solved; wa2 = wa2; dxnorm = dxnorm; fp = sub binary64 dxnorm a.delta }
 
--- dabs(fp) .le. p1*delta.or. parl.eq. zero.and. fp.le. temp.and. temp.lt. zero, where temp is the fp before
+-- dabs(fp) .le. p1*delta .or. parl .eq. zero .and. fp .le. temp .and. temp .lt. zero, where temp is the fp before
 unfoldable pub accepted : Given → Before → Tried → Bool
 accepted a b t = le (abs_of t.fp) (mul binary64 p1 a.delta) || eq b.parl plus_zero && le t.fp b.fp && lt b.fp plus_zero
 
 unfoldable pub parc_of : (List Float → Float) → Given → Tried → Float
 parc_of enorm a t = newton_step enorm a t.fp (do210 a.n t.solved.r t.solved.sdiag a.n 0 (newton_side a t.wa2 t.dxnorm))
 
--- if (fp.gt. zero) parl = dmax1(parl,par); if (fp.lt. zero) paru = dmin1(paru,par); par = dmax1(parl,par+parc)
+-- if (fp .gt. zero) parl = dmax1(parl,par); if (fp .lt. zero) paru = dmin1(paru,par); par = dmax1(parl,par+parc)
 unfoldable pub improved : (List Float → Float) → Given → Before → Tried → Before
 improved enorm a b t =
     let parl = cond (lt plus_zero t.fp) (max_of b.parl t.par) b.parl in
     let paru = cond (lt t.fp plus_zero) (min_of b.paru t.par) b.paru in
     record { iter = suc b.iter; par = max_of parl (add binary64 t.par (parc_of enorm a t)); parl = parl; paru = paru; fp = t.fp }
 
--- 150 to 220, where k more iterations may follow this one: .or. iter.eq. 10 is k = 0, and fp is then worked out and not looked at
+-- 150 to 220, where k more iterations may follow this one: .or. iter .eq. 10 is k = 0, and fp is then worked out and not looked at
 unfoldable pub iterations : (List Float → Float) → Float → Given → ℕ → Before → Output
 iterations enorm dwarf a zero b = let t = evaluated enorm dwarf a b in record { x = t.solved.x; par = t.par; qrsolvs = suc b.iter }
 iterations enorm dwarf a (suc k) b =
@@ -160,7 +160,7 @@ iterations enorm dwarf a (suc k) b =
       | false ↦ iterations enorm dwarf a k (improved enorm a b t)
     ]
 
--- 60: x is wa1 where ipvt says; if (fp.le. p1*delta) go to 220, with iter = 0, where par = zero
+-- 60: x is wa1 where ipvt says; if (fp .le. p1*delta) go to 220, with iter = 0, where par = zero
 unfoldable pub lmpar : (List Float → Float) → Float → Given → Float → Output
 lmpar enorm dwarf a par =
     let x = permuted a.ipvt (gauss_newton a) in

@@ -81,7 +81,7 @@ by_tan rkk sk =
     let cos = div binary64 p5 (root_s (add binary64 p25 (mul binary64 p25 (mul binary64 tan tan)))) in
     record { cos = cos; sin = mul binary64 cos tan }
 
--- if ((dabs(r(k,k))).ge. dabs(sdiag(k))) go to 40
+-- if (dabs(r(k,k)) .ge. dabs(sdiag(k))) go to 40
 unfoldable pub turn_of : Float → Float → Turn
 turn_of rkk sk = cond (le (abs_of sk) (abs_of rkk)) (by_tan rkk sk) (by_cotan rkk sk)
 
@@ -121,12 +121,12 @@ turned_at n k s =
     let g = turn_of rkk sk in
     do60 g k (n - suc k) (suc k) (record { r = put_cell s.r k k (stays g rkk sk); sdiag = s.sdiag; wa = put s.wa k (stays g wk s.qtbpj); qtbpj = passes g wk s.qtbpj })
 
--- do 80 k = j, n: if ((sdiag(k)).eq. zero) go to 70
+-- do 80 k = j, n: if (sdiag(k) .eq. zero) go to 70
 unfoldable pub do80 : ℕ → ℕ → ℕ → Work → Work
 do80 n zero k s = s
 do80 n (suc turns) k s = do80 n turns (suc k) (elim (eq (at s.sdiag k) plus_zero) [ true ↦ s | false ↦ turned_at n k s ])
 
--- l = ipvt(j); if ((diag(l)).eq. zero) go to 90; 30, sdiag(j) = diag(l), qtbpj = zero, 80
+-- l = ipvt(j); if (diag(l) .eq. zero) go to 90; 30, sdiag(j) = diag(l), qtbpj = zero, 80
 unfoldable pub damped_at : ℕ → Float → ℕ → Work → Work
 damped_at n diagl j s =
     elim (eq diagl plus_zero) [
@@ -148,11 +148,11 @@ pub record Cut : Type 0 where
   pub nsing : ℕ
   pub wa : List Float
 
--- if (the diagonal at j.eq. zero.and. nsing.eq. n) nsing = j - 1, which counts the places before j
+-- if (the diagonal at j .eq. zero .and. nsing .eq. n) nsing = j - 1, which counts the places before j
 abbrev pub nsing_at : ℕ → ℕ → ℕ → Float → ℕ
 nsing_at n j nsing d = cond (eq d plus_zero && eqb nsing n) j nsing
 
--- do 110 j = 1, n: nsing; if (nsing.lt. n) wa(j) = zero
+-- do 110 j = 1, n: nsing; if (nsing .lt. n) wa(j) = zero
 unfoldable pub do110 : ℕ → List Float → ℕ → ℕ → Cut → Cut
 do110 n sdiag zero j s = s
 do110 n sdiag (suc turns) j s =
