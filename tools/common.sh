@@ -48,9 +48,11 @@ need() { # COMMAND PACKAGE
     command -v "$1" >/dev/null || lacks "$1 (Debian: $2)"
 }
 
+# The kit, and what it builds, is for x86-64.
 need_kit() {
     command -v rt >/dev/null || lacks "rt (the Rattle kit, with its bin in PATH)"
     need flock util-linux
+    [ "$(uname -m)" = x86_64 ] || need qemu-x86_64 qemu-user
 }
 
 # Of a file that it does not have a compiler prints the bare name. Where the compiler is missing too, Debian's places are looked at.
@@ -106,14 +108,30 @@ begin() {
     trap 'rm -rf "$room"' EXIT
 }
 
-# Where the kit is, in `kit`, and its tools for this processor, in `tools`.
+# Where the kit is, in `kit`: the one that `rt` lies in. In `tools` what it links programs with.
 find_kit() {
     command -v rt >/dev/null ||
         trouble "rt, the command of the Rattle kit, is not in PATH: install the kit, or put its bin into PATH"
-    kit=${RATTLE_HOME:-$(cd "$(dirname "$(readlink -f "$(command -v rt)")")/.." && pwd -P)}
-    tools=$kit/on/$(uname -m)/toolchain
-    [ -f "$tools/lib/ld-linux-x86-64.so.2" ] ||
-        trouble "$(command -v rt) is no command of a Rattle kit, or its kit has nothing for this processor, $(uname -m): see PATH and RATTLE_HOME"
+    kit=$(cd "$(dirname "$(readlink -f "$(command -v rt)")")/.." && pwd -P)
+    tools=$kit/toolchain
+    [ -f "$tools/lib/ld-linux-x86-64.so.2" ] || trouble "$(command -v rt) is no command of a Rattle kit: see PATH"
+}
+
+# Passes on what `rt` says, and behind each crate's verdict its seconds: `rt: NAME proved (N s)`, which `rt` does not say itself.
+by_crate() {
+    local line name='' since=$SECONDS
+    while IFS= read -r line; do
+        printf '%s\n' "$line"
+        case $line in
+        '== summary') name='' ;;
+        '== '*) name=${line#== } ;;
+        'crate '*': modules '*) name=${line#crate } name=${name%%:*} ;;
+        'logic=proved '*)
+            [ -z "$name" ] || printf 'rt: %s proved (%d s)\n' "$name" $((SECONDS - since))
+            since=$SECONDS
+            ;;
+        esac
+    done
 }
 
 # Tells of each crate that is proved now. What has not changed comes at once and is not told; two seconds without a line are a proof.

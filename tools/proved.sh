@@ -23,15 +23,20 @@ lock() { # -s or -x
     done
 }
 
+# The files that `rt` reads. What it makes itself, the folders out/, is none of them.
+each_source() { # WORDS FOR find..
+    find -L crates.txt crates -regextype posix-extended -regex 'crates/[^/]+/out' -prune -o -type f "$@"
+}
+
 look_at_sources() {
-    sources=$({ rt version && uname -m && cd "$repo" && find -L crates.txt crates -type f -exec sha256sum {} + | LC_ALL=C sort; } | sha256sum) ||
+    sources=$({ rt version && uname -m && cd "$repo" && each_source -exec sha256sum {} + | LC_ALL=C sort; } | sha256sum) ||
         trouble "cannot read the sources, or 'rt version' failed"
     sources=${sources%% *}
 }
 
 # What the check of NAME leaves to be run or linked.
 made_of() { # NAME
-    if [ "$1" = root_c ]; then echo "$repo/target/staticlib/libroot_c.a"; else echo "$repo/target/bin/$1"; fi
+    if [ "$1" = root_c ]; then echo "$repo/crates/root_c/out/libroot_c.a"; else echo "$repo/crates/$1/out/$1"; fi
 }
 
 verdict_on() { # NAME
@@ -45,31 +50,42 @@ stands() { # NAME
     [ -f "$program" ] && [ "$(verdict_on "$1")" = "$sources $(sha256sum <"$program")" ]
 }
 
-# By the seconds in docs/COST.md, along the crates that wait for one another.
+# By the seconds of the older kit in docs/COST.md, along the crates that wait for one another.
 minutes_of() { # NAME
     case $1 in root_c) echo 'a minute' ;; leafrun) echo '2 minutes' ;; fitstep | speed) echo '7 minutes' ;; *) echo '8 minutes' ;; esac
 }
 
+# In the crate's folder: what `rt` says on standard output. A program is also run, on what is stored beside it; its own lines go to OUT.
+build() { # NAME OUT
+    local input=/dev/null
+    [ ! -f stdin ] || input=stdin
+    if [ "$1" = root_c ]; then rt lib 2>&1 </dev/null; else rt run 2>&1 >"$2" <"$input"; fi
+}
+
 # Proves and builds NAME, and leaves the verdict. The lock is held alone.
 check() { # NAME
-    local log=$repo/target/log/$1.log verb=check status=0 program
+    local log=$repo/target/log/$1.log out=$repo/target/log/$1.out verb=run status=0 program
     program=$(made_of "$1")
-    [ "$1" != root_c ] || verb=staticlib
-    # `rt` looks at sources alone: a program that is gone, or is not the one that came of them, it would not build again.
-    if [ ! -f "$program" ] || [[ $(verdict_on "$1") == "$sources "* ]]; then rm -f "$program" "$repo/target/stamp/$1"; fi
+    [ "$1" != root_c ] || verb=lib
+    [ -d "$repo/crates/$1" ] || trouble "there is no crate $repo/crates/$1"
+    # A program that is gone, or is not the one that came of these sources, is built anew.
+    if [ ! -f "$program" ] || [[ $(verdict_on "$1") == "$sources "* ]]; then rm -f "$program" "$program.stamp"; fi
     rm -f "$repo/target/verdict/$1"
-    : >"$log" || trouble "cannot write $log"
-    (cd "$repo" && rt "$verb" "$1") </dev/null 2>&1 | tee "$log" |
-        progress "proving and building $1 first, once: about $(minutes_of "$1") on two processors if nothing is proved yet" ||
+    { : >"$log" && : >"$out"; } || trouble "cannot write $log"
+    (cd "$repo/crates/$1" && build "$1" "$out") | by_crate | tee "$log" |
+        progress "proving and building $1 first, once: about $(minutes_of "$1") on two processors, by the older kit's seconds, if nothing is proved yet" ||
         status=${PIPESTATUS[0]}
     if [ "$status" != 0 ]; then
         tail -n 5 "$log" >&2
-        trouble "the program is not built: 'rt $verb $1' ended with status $status. All it said is in $log"
+        trouble "the program is not built: 'rt $verb' in crates/$1 ended with status $status. All it said is in $log"
     fi
-    [ -f "$program" ] || trouble "'rt $verb $1' ended well and left no $program"
+    [ -f "$program" ] || trouble "'rt $verb' in crates/$1 ended well and left no $program"
+    if [ -f "$repo/crates/$1/stdout" ]; then
+        cmp -s "$out" "$repo/crates/$1/stdout" || trouble "$1 wrote something else than crates/$1/stdout on what is stored beside it: see $out"
+    fi
     # A source that was another for a moment would not show in the sum.
-    [ -z "$(cd "$repo" && find -L crates.txt crates -cnewer target/verdict/began -print -quit)" ] ||
-        trouble "the sources changed while 'rt $verb $1' ran: run this again"
+    [ -z "$(cd "$repo" && each_source -cnewer target/verdict/began -print -quit)" ] ||
+        trouble "the sources changed while 'rt $verb' ran in crates/$1: run this again"
     echo "$sources $(sha256sum <"$program")" >"$repo/target/verdict/$1"
 }
 
