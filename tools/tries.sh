@@ -62,10 +62,11 @@ patiently() { # COMMAND..
     until "$@" || [ $((tries += 1)) -gt 200 ]; do sleep 0.1; done
 }
 
-unchanged=('rt: leaves proved (unchanged since it was last proved)' 'rt: ok, 10 crates proved' 0)
+unchanged=('rt: nothing has changed since the last proved build, by out/fitstep.stamp, so nothing is checked now' 0)
 
-# `rt` as far as the commands see it: it notes what it was asked, fails where two run at once, builds a program again only where the source
-# has changed since its own stamp, and puts the source into the program, so that one can see of which it is.
+# `rt` as far as the commands see it: it notes what it was asked, fails where two run at once, builds a program again only where the source or
+# the program has changed since its own stamp, puts the source into the program, so that one can see of which it is, and runs it. What it says
+# itself comes on standard error then.
 make_rt() {
     echo 'made-up kit 1' >"$room/tree/kit/KIT-ID"
     says "${unchanged[@]}"
@@ -75,31 +76,42 @@ make_rt() {
 here=$(dirname "$(readlink -f "$0")")
 [ "$1" != version ] || exec cat "$here/../KIT-ID"
 echo "$*" >>"$here/asked"
-mkdir "$here/busy" 2>/dev/null || { echo 'rt: leaves NOT PROVED: two at once'; exit 1; }
+exec 3>&1
+[ "$1" != run ] || exec >&2
+mkdir "$here/busy" 2>/dev/null || { echo 'logic=not-proved: two at once'; exit 1; }
 trap 'rmdir "$here/busy"' EXIT
-source=$(cat crates/fitstep/src/main.rt)
-mkdir -p target/bin target/stamp target/log
+source=$(cat src/main.rt 2>/dev/null)
 while read -r line; do
     case $line in wait) sleep 2.5 ;; rest) sleep 1 ;; stay) echo $$ >"$here/stays"; sleep 60 ;; [1-9]) exit "$line" ;; 0) ;; *) echo "$line" ;; esac
 done <"$here/says"
-[ -n "${2:-}" ] && [ "$(cat "target/stamp/$2" 2>/dev/null)" != "$source" ] || exit 0
-sed "s/@SOURCE@/$source/g" "$here/../programs/$2" >"target/bin/$2.new"
-chmod +x "target/bin/$2.new"
-mv "target/bin/$2.new" "target/bin/$2"
-echo "$source" >"target/stamp/$2"
+[ "$1" = run ] || exit 0
+[ -n "$source" ] || { echo 'rt: no crate here'; exit 2; }
+name=$(basename "$PWD")
+mkdir -p out
+if [ ! -f "out/$name" ] || [ "$(cat "out/$name.stamp" 2>/dev/null)" != "$source $(cksum <"out/$name")" ]; then
+    sed "s/@SOURCE@/$source/g" "$here/../programs/$name" >"out/$name.new"
+    chmod +x "out/$name.new"
+    mv "out/$name.new" "out/$name"
+    echo "$source $(cksum <"out/$name")" >"out/$name.stamp"
+fi
+echo "rt: running out/$name; to give it other input, run that file yourself"
+"out/$name" >&3
 RT
     chmod +x "$rt/rt"
 }
 
 # The program looks the sheet's bytes up in the table and prints what stands there; of another source than `one` it prints the source. The
-# run that finds a file `hold` takes it, and stays until there is a file `done`.
+# run that finds a file `hold` takes it, and stays until there is a file `done`. Case F is stored beside it, to be run on.
 make_kit() {
-    local tools
-    tools=$room/tree/kit/on/$(uname -m)/toolchain
-    mkdir -p "$rt" "$room/tree/kit/programs" "$tools/lib" "$made/crates/fitstep/src" "$made/crates/fitstep/must-fail"
+    local tools=$room/tree/kit/toolchain name
+    mkdir -p "$rt" "$room/tree/kit/programs" "$tools/lib"
+    for name in fitstep sheetrun; do
+        mkdir -p "$made/crates/$name/src" "$made/crates/$name/must-fail"
+        echo one >"$made/crates/$name/src/main.rt"
+    done
+    cp "$room/table/f.bin" "$made/crates/fitstep/stdin"
     cp -R "$repo/fitstep" "$repo/tools" "$made/"
-    echo 'fitstep: libc' >"$made/crates.txt"
-    echo one >"$made/crates/fitstep/src/main.rt"
+    echo 'fitstep: sheet' >"$made/crates.txt"
     printf '%s\n' '#!/bin/sh' 'shift 2' 'exec "$@"' >"$tools/lib/ld-linux-x86-64.so.2"
     make_rt
     cat >"$room/tree/kit/programs/fitstep" <<PROGRAM
