@@ -56,7 +56,7 @@ minutes_of() { # NAME
 }
 
 # In the crate's folder: what `rt` says on standard output. A program is also run, on what is stored beside it; its own lines go to OUT.
-build() { # NAME OUT
+ask_rt() { # NAME OUT
     local input=/dev/null
     [ ! -f stdin ] || input=stdin
     if [ "$1" = root_c ]; then rt lib 2>&1 </dev/null; else rt run 2>&1 >"$2" <"$input"; fi
@@ -72,7 +72,7 @@ check() { # NAME
     if [ ! -f "$program" ] || [[ $(verdict_on "$1") == "$sources "* ]]; then rm -f "$program" "$program.stamp"; fi
     rm -f "$repo/target/verdict/$1"
     { : >"$log" && : >"$out"; } || trouble "cannot write $log"
-    (cd "$repo/crates/$1" && build "$1" "$out") | by_crate | tee "$log" |
+    (cd "$repo/crates/$1" && ask_rt "$1" "$out") | by_crate | tee "$log" |
         progress "proving and building $1 first, once: about $(minutes_of "$1") on two processors, by the older kit's seconds, if nothing is proved yet" ||
         status=${PIPESTATUS[0]}
     if [ "$status" != 0 ]; then
