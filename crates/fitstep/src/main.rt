@@ -8,11 +8,11 @@
 // reach standard output. A write that fails is passed over.
 #![tactic(auto)]
 
-ghost use Rattle.std.specs.Prelude.{◌≡◌, length};
+ghost use Rattle.std.specs.Prelude.{◌≡◌, ◌≤◌, length};
 
 use leaves::reply::Place;
 use lines::part::within;
-use std::io::Stdout;
+use std::io::{Read, Stdin, Stdout};
 
 fn sheet_room() -> [u8; 17556]
     ensures { 17556 ≡ length result }
@@ -26,6 +26,21 @@ fn text_room() -> [u8; 1024]
     [0; 1024]
 }
 
+// Reads until buf is full, the input ends or a read fails, and answers how many bytes came.
+fn full(mut input: Stdin, buf: &mut [u8]) -> usize
+    ensures { result ≤ length buf.new }
+{
+    let mut done: usize = 0;
+    while done < buf.len() {
+        match input.read(&mut buf[done..]) {
+            Ok(0) => return done,
+            Ok(n) => done += n,
+            Err(_) => return done,
+        }
+    }
+    done
+}
+
 // A write that fails is passed over.
 fn show(screen: Stdout, text: &[u8], n: usize) {
     let k = within(text, n);
@@ -35,8 +50,7 @@ fn show(screen: Stdout, text: &[u8], n: usize) {
 fn main(rt: HostRuntime) {
     let mut room = sheet_room();
     let mut text = text_room();
-    let mut input = rt.stdin();
-    let n = lines::input::full(&mut input, &mut room);
+    let n = full(rt.stdin(), &mut room);
     let p = sheet::lines::fit_lines(&room[..n], &mut text);
     match p {
         Place::At(k) => show(rt.stdout(), &text, k),

@@ -12,15 +12,33 @@
 // that fails is passed over.
 #![tactic(auto)]
 
+ghost use Rattle.std.specs.Prelude.{◌≤◌, length};
+
 mod away;
 mod make;
 mod play;
 mod room;
 mod script;
 
+use std::io::{Read, Stdin};
+
+// Reads until buf is full, the input ends or a read fails, and answers how many bytes came.
+fn full(mut input: Stdin, buf: &mut [u8]) -> usize
+    ensures { result ≤ length buf.new }
+{
+    let mut done: usize = 0;
+    while done < buf.len() {
+        match input.read(&mut buf[done..]) {
+            Ok(0) => return done,
+            Ok(n) => done += n,
+            Err(_) => return done,
+        }
+    }
+    done
+}
+
 fn main(rt: HostRuntime) {
     let mut text = room::text();
-    let mut input = rt.stdin();
-    let n = lines::input::full(&mut input, &mut text);
+    let n = full(rt.stdin(), &mut text);
     script::run(rt.stdout(), &text[..n]);
 }
