@@ -1,11 +1,11 @@
 use Prim.Native.Nat.{ℕ, suc, ◌+◌, ◌-◌, ◌≤◌}
 use mathlib.Core.Path.{◌≡◌, refl, sym, ap, ◌∙◌}
-use mathlib.Core.List.{List}
+use mathlib.Core.List.{List, [], ◌∷◌}
 use native.Mathlib.Numerals.{add-one}
 use native.Mathlib.Omega.{arith}
 use lib.ListN.{length}
 use lib.Ieee.{Float}
-use Rattle.leaves.specs.Norm.{norm, ranges}
+use Rattle.leaves.specs.Norm.{norm, either, ranges, ranges_of}
 use Rattle.leaves.specs.Number.{plus_zero}
 use Rattle.factor.specs.Room.{load, lay, emptied}
 use Rattle.factor.specs.PivotOrder.{lowered}
@@ -20,6 +20,9 @@ use Rattle.search.proofs.Trying.{Tried, at_lambda, at_norm, at_ten, at_within, a
 use Rattle.search.proofs.Seeing.{seen_last, seen_again}
 use Rattle.search.proofs.Workings.{ready_after}
 use Rattle.search.proofs.trials.Turning.{step_asked, scaled-asked, damped-kept, correction-asked}
+use Rattle.leaves.specs.declared.norm.Ranges.{Ranges}
+use Rattle.search.specs.Run.{Run}
+use Rattle.search.specs.Measured.{measured_trials}
 use Rattle.search.proofs.trials.trials.Goals as goal
 
 -- what the solve of a turn left, of the problem that the search was asked
@@ -50,6 +53,11 @@ solved st order diag radius store₀ store s t e dl long kept lambda store' v w 
       kept = damped-kept st store order r diag dl lambda radius (load st.n store₀) kept store' d.3;
       seen = d.4 ∙ ap ranges scaled;
     }
+
+-- where it stops: what is seen is all that was to be seen
+all₂ : (p : Problem) (step : List Float) (before told : Ranges) {mine all : Ranges} → told ≡ either before mine → mine ≡ ranges (scaled_step p step)
+    → (r : Run) → measured_trials p r ≡ scaled_step p step ∷ [] → either before (ranges_of (measured_trials p r)) ≡ all → told ≡ all
+all₂ p step before told e s r m h = e ∙ seen_last before _ _ s m h
 
 pub loop-st-init : goal.loop-st-init
 loop-st-init c = (omega arith, refl, refl, refl, refl, (refl, refl))
@@ -121,7 +129,7 @@ returns-then-t-eq10 c =
     let f₂ = sym c.is_finite-in-loop-st.ensures ∙ c.if-not-is_finite-2.false in
     let n : 9 - c.loop-st.t ≡ 0 = omega (arith, c.loop-st.invariant.0, c.if-t-eq10.true) in
     let x = at_ten p (next_of c.loop-st.s) c.loop-st.t unanswered y.tried f₁ f₂ in
-    record { w_after = rw (c.told-answer.ensures, add-one) (sym x.0 ∙ (rw n at c.loop-st.invariant.5.0)); store_unchanged = y.kept; saw = rw c.told-answer.ensures (c.either-seen.ensures ∙ seen_last c.loop-st.s.seen _ _ y.seen x.1 (rw n at c.loop-st.invariant.5.1)) }
+    record { w_after = rw (c.told-answer.ensures, add-one) (sym x.0 ∙ (rw n at c.loop-st.invariant.5.0)); store_unchanged = y.kept; saw = rw c.told-answer.ensures (all₂ p (placed p c.damped-d.new.w) c.loop-st.s.seen _ c.either-seen.ensures y.seen _ x.1 (rw n at c.loop-st.invariant.5.1)) }
 
 pub returns-then-is_within : goal.returns-then-is_within
 returns-then-is_within c =
@@ -133,7 +141,7 @@ returns-then-is_within c =
     let f₂ = sym c.is_finite-in-loop-st.ensures ∙ c.if-not-is_finite-2.false in
     let n : 9 - c.loop-st.t ≡ suc (9 - (c.loop-st.t + 1)) = omega (arith, c.loop-st.invariant.0, c.if-t-eq10.false) in
     let x = at_within p (next_of c.loop-st.s) c.loop-st.t unanswered y.tried f₁ f₂ (9 - (c.loop-st.t + 1)) refl (sym c.is_within.ensures ∙ c.if-is_within.true) in
-    record { w_after = rw (c.told-answer-then-is_within.ensures, add-one) (sym x.0 ∙ (rw n at c.loop-st.invariant.5.0)); store_unchanged = y.kept; saw = rw c.told-answer-then-is_within.ensures (c.either-seen.ensures ∙ seen_last c.loop-st.s.seen _ _ y.seen x.1 (rw n at c.loop-st.invariant.5.1)) }
+    record { w_after = rw (c.told-answer-then-is_within.ensures, add-one) (sym x.0 ∙ (rw n at c.loop-st.invariant.5.0)); store_unchanged = y.kept; saw = rw c.told-answer-then-is_within.ensures (all₂ p (placed p c.damped-d.new.w) c.loop-st.s.seen _ c.either-seen.ensures y.seen _ x.1 (rw n at c.loop-st.invariant.5.1)) }
 
 pub returns-then-is_falling : goal.returns-then-is_falling
 returns-then-is_falling c =
@@ -145,7 +153,7 @@ returns-then-is_falling c =
     let f₂ = sym c.is_finite-in-loop-st.ensures ∙ c.if-not-is_finite-2.false in
     let n : 9 - c.loop-st.t ≡ suc (9 - (c.loop-st.t + 1)) = omega (arith, c.loop-st.invariant.0, c.if-t-eq10.false) in
     let x = at_falling p (next_of c.loop-st.s) c.loop-st.t unanswered y.tried f₁ f₂ (9 - (c.loop-st.t + 1)) refl (sym c.is_within.ensures ∙ c.if-is_within.false) (sym c.is_falling.ensures ∙ c.if-is_falling.true) in
-    record { w_after = rw (c.told-answer-then-is_falling.ensures, add-one) (sym x.0 ∙ (rw n at c.loop-st.invariant.5.0)); store_unchanged = y.kept; saw = rw c.told-answer-then-is_falling.ensures (c.either-seen.ensures ∙ seen_last c.loop-st.s.seen _ _ y.seen x.1 (rw n at c.loop-st.invariant.5.1)) }
+    record { w_after = rw (c.told-answer-then-is_falling.ensures, add-one) (sym x.0 ∙ (rw n at c.loop-st.invariant.5.0)); store_unchanged = y.kept; saw = rw c.told-answer-then-is_falling.ensures (all₂ p (placed p c.damped-d.new.w) c.loop-st.s.seen _ c.either-seen.ensures y.seen _ x.1 (rw n at c.loop-st.invariant.5.1)) }
 
 pub returns-then-not-is_finite-3 : goal.returns-then-not-is_finite-3
 returns-then-not-is_finite-3 c =
