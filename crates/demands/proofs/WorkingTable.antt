@@ -12,7 +12,7 @@ use Rattle.leaves.specs.Reply.{Reply, refused}
 use Rattle.leaves.specs.Tests.{Test, first_of}
 use Rattle.leaves.proofs.Refusals.{numbered, refused_iff, passed_iff, call-refused, call-worked}
 use Rattle.leaves.specs.Refusing.{NoneHold}
-use Rattle.reduce.specs.Reduced.{reduce_call, filled_call as reduceFilled}
+use Rattle.reduce.specs.Reduced.{reduce_call, filled_call as reduce_filled_call}
 use Rattle.eliminate.specs.Eliminated.{eliminate_call}
 use Rattle.factor.specs.Tests.{permutation_tests, room_tests, solve_tests}
 use Rattle.factor.specs.Factoring.{factor_worked}
@@ -90,7 +90,7 @@ module _ {A B : Type 0} (ts : List Test) (reply : A → Reply B) (came : Reply B
 
 -- LAW
 pub workings : Workings
-unfolding zero_in damped_in held_zero_in held_damped_in product_in full_rank empty_in reduce_call reduceFilled factor_filled eliminate_call
+unfolding zero_in damped_in held_zero_in held_damped_in product_in full_rank empty_in reduce_call reduce_filled_call factor_filled eliminate_call
 workings = record {
   zero = λ m n store w. by_tests _ _ _ _ refl (λ r. refl) refl;
   damped = λ n ds store w. by_tests _ _ _ _ refl (λ r. refl) refl;

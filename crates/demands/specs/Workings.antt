@@ -6,7 +6,7 @@ use Rattle.leaves.specs.Triangle.{solve_upper}
 use Rattle.leaves.specs.Norm.{enorm}
 use Rattle.demands.specs.Calls.{reply_number}
 use Rattle.leaves.specs.Tests.{Test, first_of}
-use Rattle.reduce.specs.Reduced.{Reduced, reduced_as, reduce_tests, filled_call as reduceFilled}
+use Rattle.reduce.specs.Reduced.{Reduced, reduced_as, reduce_tests, filled_call as reduce_filled_call}
 use Rattle.eliminate.specs.Eliminated.{Eliminated, eliminated_as, eliminate_tests, eliminate_call}
 use Rattle.factor.specs.Outcome.{Read, read, Left, left_in}
 use Rattle.factor.specs.Factoring.{finite_room}
@@ -70,7 +70,7 @@ pub record Workings : Type 0 where
   pub empty : (n : ℕ) (store : List Float) → Reads (size_tests 1 n (length store) n) store (empty_in n store)
   pub reduce_filled : (m n : ℕ) (norms diag : List Float) (order : List ℕ) (bench : List Float)
       → ByTests (reduce_tests m n (length (take (m * n) bench)) (length (drop (m * n) bench)) (length norms) (length diag) (length order) (length bench))
-      (λ (x : Reduced). x.reply) (λ a. reduced_as a norms diag order bench) (reduceFilled m n norms diag order bench)
+      (λ (x : Reduced). x.reply) (λ a. reduced_as a norms diag order bench) (reduce_filled_call m n norms diag order bench)
   pub factor_filled : (m n : ℕ) (store : List Float) (order : List ℕ) (bench : List Float)
       → ByTestsAnd8 (filled_tests m n (length store) (length order) (length bench)) (λ (x : Filled). x.reply) (λ a. filled_as a store order bench)
       (finite_room (room_made m n (take (m * n) bench) (drop (m * n) bench) store)) (filled_of (factoring_stands m n (take (m * n) bench) (drop (m * n) bench) store order bench))

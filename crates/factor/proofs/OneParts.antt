@@ -31,6 +31,6 @@ pub diagonal-one_outcome : (κs : Lfts 2) (a : ArgsD diagonal-signature κs) (r�
     → diagonal.Post κs a r₁ s₁ → diagonal.Post κs a r₂ s₂ → (r₁ ≡ r₂) × (s₁.1.1.0.now ≡ s₂.1.1.0.now)
 diagonal-one_outcome κs a r₁ r₂ s₁ s₂ p q = read_same r₁ r₂ (p ∙ sym q)
 
-pub rest_one_outcome : (κs : Lfts 1) (a : ArgsD rest-signature κs) (r₁ r₂ : Done) (s₁ s₂ : AtExit (ended_of 1 rest-kinds.ps rest-kinds.r) κs)
+pub rest-one_outcome : (κs : Lfts 1) (a : ArgsD rest-signature κs) (r₁ r₂ : Done) (s₁ s₂ : AtExit (ended_of 1 rest-kinds.ps rest-kinds.r) κs)
     → rest.Post κs a r₁ s₁ → rest.Post κs a r₂ s₂ → (r₁ ≡ r₂) × (s₁.1.0.now ≡ s₂.1.0.now)
-rest_one_outcome κs a r₁ r₂ s₁ s₂ p q = read_same r₁ r₂ (p ∙ sym q)
+rest-one_outcome κs a r₁ r₂ s₁ s₂ p q = read_same r₁ r₂ (p ∙ sym q)

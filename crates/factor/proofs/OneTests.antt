@@ -34,9 +34,9 @@ pub permutation-one_outcome : (κs : Lfts 1) (a : ArgsD permutation-signature κ
     → permutation.Post κs a r₁ s₁ → permutation.Post κs a r₂ s₂ → r₁ ≡ r₂
 permutation-one_outcome κs a r₁ r₂ s₁ s₂ p q = p ∙ sym q
 
-pub room_one_outcome : (κs : Lfts 0) (a : ArgsD room-signature κs) (r₁ r₂ : ℕ) (s₁ s₂ : AtExit (ended_of 0 room-kinds.ps room-kinds.r) κs)
+pub room-one_outcome : (κs : Lfts 0) (a : ArgsD room-signature κs) (r₁ r₂ : ℕ) (s₁ s₂ : AtExit (ended_of 0 room-kinds.ps room-kinds.r) κs)
     → room.Post κs a r₁ s₁ → room.Post κs a r₂ s₂ → r₁ ≡ r₂
-room_one_outcome κs a r₁ r₂ s₁ s₂ p q = p ∙ sym q
+room-one_outcome κs a r₁ r₂ s₁ s₂ p q = p ∙ sym q
 
 pub ordered-one_outcome : (κs : Lfts 1) (a : ArgsD ordered-signature κs) (r₁ r₂ : ℕ) (s₁ s₂ : AtExit (ended_of 1 ordered-kinds.ps ordered-kinds.r) κs)
     → ordered.Post κs a r₁ s₁ → ordered.Post κs a r₂ s₂ → r₁ ≡ r₂

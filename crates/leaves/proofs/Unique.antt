@@ -120,9 +120,9 @@ pub min-one_outcome : (κs : Lfts 0) (a : ArgsD min-signature κs) (r₁ r₂ : 
     → min.Post κs a r₁ s₁ → min.Post κs a r₂ s₂ → r₁ ≡ r₂
 min-one_outcome κs a r₁ r₂ s₁ s₂ p q = p ∙ sym q
 
-pub square_one_outcome : (κs : Lfts 0) (a : ArgsD square-signature κs) (r₁ r₂ : Float) (s₁ s₂ : AtExit (ended_of 0 square-kinds.ps square-kinds.r) κs)
+pub square-one_outcome : (κs : Lfts 0) (a : ArgsD square-signature κs) (r₁ r₂ : Float) (s₁ s₂ : AtExit (ended_of 0 square-kinds.ps square-kinds.r) κs)
     → square.Post κs a r₁ s₁ → square.Post κs a r₂ s₂ → r₁ ≡ r₂
-square_one_outcome κs a r₁ r₂ s₁ s₂ p q = p ∙ sym q
+square-one_outcome κs a r₁ r₂ s₁ s₂ p q = p ∙ sym q
 
 pub is_negative-one_outcome : (κs : Lfts 0) (a : ArgsD is-negative-signature κs) (r₁ r₂ : Bool) (s₁ s₂ : AtExit (ended_of 0 is-negative-kinds.ps is-negative-kinds.r) κs)
     → is_negative.Post κs a r₁ s₁ → is_negative.Post κs a r₂ s₂ → r₁ ≡ r₂

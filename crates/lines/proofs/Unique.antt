@@ -70,9 +70,9 @@ pub line-one_outcome : (κs : Lfts 2) (a : ArgsD feed-line-signature κs) (r₁ 
     → (r₁ ≡ r₂) × (s₁.1.1.0.now ≡ s₂.1.1.0.now)
 line-one_outcome κs a r₁ r₂ s₁ s₂ p q = let e = p ∙ sym q in (ap (λ (x : Fed × List ℕ). x.0) e, ap (λ (x : Fed × List ℕ). x.1) e)
 
-pub number_one_outcome : (κs : Lfts 1) (a : ArgsD put-number-signature κs) (r₁ r₂ : ℕ) (s₁ s₂ : AtExit (ended_of 1 put-number-kinds.ps put-number-kinds.r) κs) → put-number.Post κs a r₁ s₁ → put-number.Post κs a r₂ s₂
+pub number-one_outcome : (κs : Lfts 1) (a : ArgsD put-number-signature κs) (r₁ r₂ : ℕ) (s₁ s₂ : AtExit (ended_of 1 put-number-kinds.ps put-number-kinds.r) κs) → put-number.Post κs a r₁ s₁ → put-number.Post κs a r₂ s₂
     → (r₁ ≡ r₂) × (s₁.1.0.now ≡ s₂.1.0.now)
-number_one_outcome κs a r₁ r₂ s₁ s₂ p q = let e = p ∙ sym q in (ap (λ (x : ℕ × List ℕ). x.0) e, ap (λ (x : ℕ × List ℕ). x.1) e)
+number-one_outcome κs a r₁ r₂ s₁ s₂ p q = let e = p ∙ sym q in (ap (λ (x : ℕ × List ℕ). x.0) e, ap (λ (x : ℕ × List ℕ). x.1) e)
 
 pub double-one_outcome : (κs : Lfts 1) (a : ArgsD put-double-signature κs) (r₁ r₂ : ℕ) (s₁ s₂ : AtExit (ended_of 1 put-double-kinds.ps put-double-kinds.r) κs) → put-double.Post κs a r₁ s₁ → put-double.Post κs a r₂ s₂
     → (r₁ ≡ r₂) × (s₁.1.0.now ≡ s₂.1.0.now)

@@ -37,17 +37,17 @@ use Rattle.text.specs.contracts.put.bytes.{signature as bytes-signature}
 use Rattle.text.proofs.put.bytes.Reads as bytes
 use Rattle.text.proofs.put.bytes.Kinds as bytes-kinds
 
-pub value_one_outcome : (κs : Lfts 0) (a : ArgsD value-signature κs) (r₁ r₂ : Digit) (s₁ s₂ : AtExit (ended_of 0 value-kinds.ps value-kinds.r) κs) → value.Post κs a r₁ s₁ → value.Post κs a r₂ s₂
+pub value-one_outcome : (κs : Lfts 0) (a : ArgsD value-signature κs) (r₁ r₂ : Digit) (s₁ s₂ : AtExit (ended_of 0 value-kinds.ps value-kinds.r) κs) → value.Post κs a r₁ s₁ → value.Post κs a r₂ s₂
     → r₁ ≡ r₂
-value_one_outcome κs a r₁ r₂ s₁ s₂ p q = p ∙ sym q
+value-one_outcome κs a r₁ r₂ s₁ s₂ p q = p ∙ sym q
 
 pub capital-one_outcome : (κs : Lfts 0) (a : ArgsD capital-signature κs) (r₁ r₂ : ℕ) (s₁ s₂ : AtExit (ended_of 0 capital-kinds.ps capital-kinds.r) κs) → capital.Post κs a r₁ s₁ → capital.Post κs a r₂ s₂
     → r₁ ≡ r₂
 capital-one_outcome κs a r₁ r₂ s₁ s₂ p q = p ∙ sym q
 
-pub number_one_outcome : (κs : Lfts 1) (a : ArgsD number-signature κs) (r₁ r₂ : Read) (s₁ s₂ : AtExit (ended_of 1 number-kinds.ps number-kinds.r) κs) → number.Post κs a r₁ s₁ → number.Post κs a r₂ s₂
+pub number-one_outcome : (κs : Lfts 1) (a : ArgsD number-signature κs) (r₁ r₂ : Read) (s₁ s₂ : AtExit (ended_of 1 number-kinds.ps number-kinds.r) κs) → number.Post κs a r₁ s₁ → number.Post κs a r₂ s₂
     → r₁ ≡ r₂
-number_one_outcome κs a r₁ r₂ s₁ s₂ p q = p ∙ sym q
+number-one_outcome κs a r₁ r₂ s₁ s₂ p q = p ∙ sym q
 
 pub of_bits-one_outcome : (κs : Lfts 0) (a : ArgsD of-bits-signature κs) (r₁ r₂ : Float) (s₁ s₂ : AtExit (ended_of 0 of-bits-kinds.ps of-bits-kinds.r) κs) → of-bits.Post κs a r₁ s₁ → of-bits.Post κs a r₂ s₂
     → r₁ ≡ r₂

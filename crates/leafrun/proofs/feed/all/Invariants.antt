@@ -1,3 +1,4 @@
+-- `leafrun::feed::all` is safe and ends. The measure is the number of turns left. Assumes nothing.
 -- The measure is the number of turns left.
 use Rattle.leafrun.proofs.feed.all.Given as goal
 

@@ -1,3 +1,4 @@
+-- `leaves::norm::step` meets its contract: a number of middle size keeps its sign, since its square is that of its absolute value. Assumes nothing.
 use mathlib.Core.Path.{◌∙◌}
 use lib.Ieee.{of_bits, round, neg}
 use Rattle.leaves.specs.Number.{square_of}

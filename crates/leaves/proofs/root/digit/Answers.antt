@@ -1,3 +1,4 @@
+-- `root::digit` meets its contract: either digit keeps what is promised of it. Assumes nothing.
 use native.Mathlib.Omega.{arith}
 use Rattle.leaves.proofs.root.Digits.{digit_one}
 use Rattle.leaves.proofs.root.digit.Goals as goal

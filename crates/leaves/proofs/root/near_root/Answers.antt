@@ -1,3 +1,4 @@
+-- `root::near_root` meets its contract: each turn keeps `Going`, and after the last digit half of s is the whole root of 4S. Assumes nothing.
 use native.Mathlib.Omega.{arith}
 use Rattle.leaves.proofs.root.Digits.{start, ready, turn, finish}
 use Rattle.leaves.proofs.root.near_root.Goals as goal

@@ -1,3 +1,4 @@
+-- `root::pattern` meets its contract: v by the parity of z + 969, and the sum of field and digits. Assumes nothing.
 use mathlib.Core.Path.{sym, ap, ◌∙◌}
 use Prim.Native.Nat.{ℕ, ◌*◌, ◌^◌}
 use Rattle.leaves.specs.inner.Parts.{magnitude}

@@ -1,3 +1,4 @@
+-- `root::raise` meets its contract: a subnormal's n is moved up to 53 digits, a place and a digit less each turn. Assumes nothing.
 use native.Mathlib.Omega.{arith}
 use Rattle.leaves.proofs.root.Raising.{raised-start, raised_step, raised_pos}
 use Rattle.leaves.proofs.root.raise.Goals as goal

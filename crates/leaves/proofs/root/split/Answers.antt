@@ -1,3 +1,4 @@
+-- `root::split` meets its contract: t and z are those of the pattern's magnitude, subnormal or not. Assumes nothing.
 use mathlib.Core.Path.{◌≡◌}
 use Prim.Native.Nat.{◌*◌, ◌/◌, ◌%◌, ◌^◌}
 use native.Mathlib.Omega.{arith}

@@ -1,3 +1,4 @@
+-- `root::sqrt` meets its contract: each return is a case of `root_s`. Assumes nothing.
 use mathlib.Core.Path.{sym, ap, ◌∙◌, subst}
 use Prim.Native.Nat.{ℕ}
 use lib.Dec.{T}

@@ -1,3 +1,4 @@
+-- `lines::feed::line` meets its contract. The measure is what is left of the chunk. Assumes nothing.
 use Rattle.std.proofs.Common.{◌≡◌, ◌-◌, length, drop}
 use Rattle.lines.specs.Feed.{fed_from}
 use Rattle.lines.proofs.feed.line.Given as goal

@@ -1,3 +1,4 @@
+-- `lines::put::row` meets its contract. The measure is what is left of the numbers. Assumes nothing.
 use Rattle.std.proofs.Common.{◌≡◌, ◌-◌, length, drop}
 use Rattle.lines.specs.Put.{row_from}
 use Rattle.lines.proofs.put.row.Given as goal

@@ -1,3 +1,4 @@
+-- `lines::scan::doubles` meets its contract. The measure is what is left of the numbers. Assumes nothing.
 use Rattle.std.proofs.Common.{◌≡◌, ◌-◌, ◌≤◌, length}
 use Rattle.lines.specs.Scan.{rest_from, doubles_at}
 use Rattle.lines.proofs.scan.doubles.Given as goal

@@ -1,3 +1,4 @@
+-- `replay::beside::begins` is safe and ends. The measure is what is left of the numbers. Assumes nothing.
 -- The measure is what is left of the numbers.
 use Rattle.std.proofs.Common.{◌-◌, ◌≤◌, length}
 use Rattle.replay.proofs.beside.begins.Given as goal

@@ -1,3 +1,4 @@
+-- `replay::beside::copied` is safe, ends and meets its contract. The measure is what is left of the numbers. Assumes nothing.
 -- The measure is what is left of the numbers.
 use Rattle.std.proofs.Common.{◌-◌, ◌≤◌, length}
 use Rattle.replay.proofs.beside.copied.Given as goal

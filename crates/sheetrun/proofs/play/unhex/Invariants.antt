@@ -1,3 +1,4 @@
+-- `sheetrun::play::unhex` is safe and ends. The measure is what is left of the bytes. Assumes nothing.
 -- The measure is what is left of the bytes.
 use Rattle.std.proofs.Common.{◌≡◌, ◌-◌, ◌/◌, ◌≤◌, length}
 use Rattle.sheetrun.proofs.play.unhex.Given as goal
