@@ -9,7 +9,12 @@ use lib.ListN.{length, take, drop, get_or, drop_of_length-le}
 use lib.Seq.{drop-cons}
 use lib.Dec.{ltb}
 use borrow.Author.Tests.{eq-eqb, ne_eqb, le-ltb, ltb-false}
+use Rattle.std.specs.Prelude.{Result, Ok, Err}
+use Rattle.std.specs.Result.{is_err}
+use Rattle.leaves.specs.declared.reply.Refusal.{Refusal}
+use Rattle.leaves.specs.Reply.{failed_by}
 use Rattle.leaves.specs.Tests.{outside, first_of}
+use Rattle.leaves.proofs.Replies.{refusal_number-some}
 use Rattle.leaves.proofs.Insides.{neither, inside, within}
 use Rattle.leaves.proofs.Refusals.{passed_iff}
 use Rattle.frozen.specs.Frozen.{mark_past}
@@ -31,6 +36,15 @@ module _ (k : ℕ) (order : List ℕ) where
   pub count_ends : length order ≤ k → continues k (drop k order) ≡ true
   unfolding continues
   count_ends h = rw (drop_of_length-le order {i = k} h)
+
+-- ---- whether tests failed, asked by `is_err`
+pub failed_some : (r : Result (Unit {0}) Refusal) {k : ℕ} → is_err r ≡ true → failed_by r ≡ k → k ≡ 0 → ⊥
+failed_some (Ok x) h e z = absurd (cc)
+failed_some (Err j) h e z = refusal_number-some j (e ∙ z)
+
+pub failed_none : (r : Result (Unit {0}) Refusal) {k : ℕ} → is_err r ≡ false → failed_by r ≡ k → k ≡ 0
+failed_none (Ok x) h e = sym e
+failed_none (Err j) h e = absurd (cc)
 
 -- ---- the free columns among themselves
 four : first_of ((true, 4) ∷ []) ≡ 0 → ⊥

@@ -13,7 +13,9 @@ use lib.Ieee.{Float}
 use borrow.Author.Tests.{eqb-true, eqb-false, ne_eqb, le-ltb}
 use Rattle.leaves.specs.Loop.{count_from}
 use Rattle.leaves.specs.Number.{plus_zero}
-use Rattle.leaves.specs.Reply.{Reply, answered, refused}
+use Rattle.leaves.specs.declared.reply.Refusal.{Refusal}
+use Rattle.leaves.specs.Reply.{Reply, answered, refused, refusal_number}
+use Rattle.leaves.proofs.Replies.{refusal_number-some}
 use Rattle.leaves.specs.Square.{zeros}
 use Rattle.leaves.specs.Tests.{outside, Test, first_of}
 use Rattle.leaves.specs.declared.norm.Ranges.{Ranges}
@@ -224,23 +226,23 @@ module _ (m n marks : ℕ) (jacobian residuals store : List Float) (order : List
           let e : eqb n 0 ≡ false = ne_eqb n 0 (λ (q : n ≡ 0). absurd (omega arith)) in
           rw (past, all, e, h) (last_unmet _ 9)
 
-  pub factor_refused : {c : ℕ} {a : Reply Ranges} {after : State} → a ≡ refused c → after ≡ no_problem → c ≡ first_of tests → (c ≡ 0 → ⊥)
+  pub factor_refused : (r : Refusal) {a : Reply Ranges} {after : State} → a ≡ refused (refusal_number r) → after ≡ no_problem → refusal_number r ≡ first_of tests
       → marked_factored a after store order bench ≡ marked_factoring m n marks jacobian residuals store order bench
   unfolding marked_factoring plain.factor_call
-  factor_refused {c} {a} {after} ea et e h = rw (ea, et) (by (eqb marks 0) refl)
+  factor_refused r {a} {after} ea et e = rw (ea, et) (by (eqb marks 0) refl)
     where
-      by : (b : Bool) → eqb marks 0 ≡ b → refusal c ≡ marked_factoring m n marks jacobian residuals store order bench
+      by : (b : Bool) → eqb marks 0 ≡ b → refusal (refusal_number r) ≡ marked_factoring m n marks jacobian residuals store order bench
       by true z =
           let s = tests_unmarked (eqb-true marks 0 z) in
-          ap factored_as (call-refused _ (λ (k : ℕ). plain.factored (refused k) none store order bench) unmarked_tests c (sym s ∙ sym e) (ne_eqb c 0 h)) ∙ by_no_mark marks tests whole (reduced_for (free_count (marks_of n marks))) refusal (eqb-true marks 0 z)
-      by false z = by_refusal marks tests whole (reduced_for (free_count (marks_of n marks))) refusal (eqb-false marks 0 z) e h
+          ap factored_as (call-refused _ (λ (k : ℕ). plain.factored (refused k) none store order bench) unmarked_tests (refusal_number r) (sym s ∙ sym e) (ne_eqb (refusal_number r) 0 (refusal_number-some r))) ∙ by_no_mark marks tests whole (reduced_for (free_count (marks_of n marks))) refusal (eqb-true marks 0 z)
+      by false z = by_refusal marks tests whole (reduced_for (free_count (marks_of n marks))) refusal (eqb-false marks 0 z) e (refusal_number-some r)
 
-  module _ {c free : ℕ} (e : c ≡ first_of tests) (h : c ≡ 0) (f : free ≡ free_count (marks_of n marks)) where
+  module _ {free : ℕ} (e : 0 ≡ first_of tests) (f : free ≡ free_count (marks_of n marks)) where
     abbrev passed : Factorable m n marks free jacobian residuals
-    passed = factorable m n marks jacobian residuals (length store) (length order) (length bench) e h f
+    passed = factorable m n marks jacobian residuals (length store) (length order) (length bench) e f
 
     abbrev long : Lengths m n (length jacobian) (length residuals) (length store) (length order) (length bench)
-    long = long_enough m n marks jacobian residuals (length store) (length order) (length bench) e h f
+    long = long_enough m n marks jacobian residuals (length store) (length order) (length bench) e f
 
     -- the free columns' factoring, in the lent slices
     abbrev lent : plain.Factored
@@ -268,7 +270,7 @@ module _ (m n marks : ℕ) (jacobian residuals store : List Float) (order : List
         let u : filled_as a s o b ≡ filled_of v = w ∙ ap filled_of p in
         let er : a ≡ v.reply = ap (λ (x : Filled). x.reply) u in
         let d : after ≡ marked 0 v.state = ea ∙ (ap (λ (x : ℕ). state_left m n x a) z ∙ (ap (state_left m n 0) er ∙ sym (worked-state m n jacobian residuals store order bench))) in
-        let k : v ≡ plain.factor_call m n jacobian residuals store order bench = call-worked v (λ (k : ℕ). plain.factored (refused k) none store order bench) unmarked_tests (sym (tests_unmarked z) ∙ (sym e ∙ h)) in
+        let k : v ≡ plain.factor_call m n jacobian residuals store order bench = call-worked v (λ (k : ℕ). plain.factored (refused k) none store order bench) unmarked_tests (sym (tests_unmarked z) ∙ sym e) in
         rw (et, d)
         (ap (λ (x : Filled). marked_factored x.reply (marked 0 v.state) x.store x.order x.bench) u ∙ (ap factored_as k ∙ by_no_mark marks tests whole (reduced_for (free_count (marks_of n marks))) refusal z))
 
@@ -280,4 +282,4 @@ module _ (m n marks : ℕ) (jacobian residuals store : List Float) (order : List
     factor_frozen z et ea w ks ko es eo eb =
         rw et
         (frozen_left m n marks free jacobian residuals passed store order bench long.store_long long.order_long w ks ko ea es eo eb
-        ∙ (ap reduced_for f ∙ by_working marks tests whole (reduced_for (free_count (marks_of n marks))) refusal z e h))
+        ∙ (ap reduced_for f ∙ by_working marks tests whole (reduced_for (free_count (marks_of n marks))) refusal z e refl))

@@ -10,18 +10,19 @@ use lib.ListN.{length, take, drop, drop_of_length-le}
 use lib.Seq.{take_all, take-add, length-take-le}
 use lib.Ieee.{Float}
 use borrow.Author.Tests.{ltb-false, le-ltb, eqb-false, not-false}
-use Rattle.leaves.specs.Reply.{Reply}
+use Rattle.std.specs.Prelude.{Result}
+use Rattle.leaves.specs.declared.reply.Refusal.{Refusal}
+use Rattle.leaves.specs.Reply.{reply_of}
 use Rattle.leaves.specs.Refusing.{NoneHold}
 use Rattle.leaves.specs.Vector.{copy}
 use Rattle.leaves.specs.Tests.{outside, Test, first_of, all_finite}
 use Rattle.leaves.proofs.Refusals.{passed_iff, none_of_both}
 use Rattle.leaves.proofs.Insides.{neither, Inside, inside, within}
-use Rattle.leaves.proofs.Folds.{nonzero, copy_leaves}
+use Rattle.leaves.proofs.Folds.{nonzero, copy_is}
 use Rattle.leaves.proofs.Overs.{append_nil}
 use Rattle.frozen.specs.Frozen.{marks_of, mark_past, free_count, free_columns}
 use Rattle.frozen.proofs.Blocks.{columns-length, marks-length, columns_done}
 use Rattle.frozen.proofs.Runs.{two_laid}
-use Rattle.frozen.proofs.Spreads.{second_long}
 use Rattle.frozen.proofs.Unmarked.{none_set, columns_whole}
 use Rattle.frozen.specs.Moved.{columns_call}
 use Rattle.factor.specs.State.{store_need, bench_need}
@@ -30,6 +31,7 @@ use Rattle.factor.proofs.Lays.{finite-append}
 use Rattle.calls.specs.Factoring.{marked_factor_tests}
 use Rattle.calls.specs.inner.Factorable.{length_tests, Factorable}
 use Rattle.calls.proofs.Passed.{free_count-fits}
+use Rattle.calls.proofs.Ways.{Done, done}
 
 -- ---- the tests passed
 pub record Lengths (m n jacobian residuals store order bench : ℕ) : Type 0 where
@@ -63,11 +65,11 @@ module _ (m n marks : ℕ) (jacobian residuals : List Float) (store order bench 
   abbrev pub later_tests : List Test
   later_tests = (not (all_finite (take (m * n) jacobian)), 6) ∷ (not (all_finite (take m residuals)), 6) ∷ (eqb (free_count (marks_of n marks)) 0, 9) ∷ []
 
-  module _ {c free : ℕ} (e : c ≡ first_of (marked_factor_tests m n marks jacobian residuals store order bench)) (z : c ≡ 0) (f : free ≡ free_count (marks_of n marks)) where
+  module _ {free : ℕ} (e : 0 ≡ first_of (marked_factor_tests m n marks jacobian residuals store order bench)) (f : free ≡ free_count (marks_of n marks)) where
     passed : NoneHold (length_tests m n marks (length jacobian) (length residuals) store order bench) × NoneHold later_tests
     passed =
         none_of_both (length_tests m n marks (length jacobian) (length residuals) store order bench) later_tests
-        ((passed_iff (marked_factor_tests m n marks jacobian residuals store order bench) refl).0 (sym e ∙ z))
+        ((passed_iff (marked_factor_tests m n marks jacobian residuals store order bench) refl).0 (sym e))
 
     pub long_enough : Lengths m n (length jacobian) (length residuals) store order bench
     long_enough = lengths_of m n marks (length jacobian) (length residuals) store order bench passed.0
@@ -87,18 +89,21 @@ module _ (m n marks : ℕ) (jacobian residuals : List Float) (store order bench 
 -- ---- the free columns, gathered where there is room for them alone
 module _ (m n marks : ℕ) (jacobian bench : List Float) (j : m * n ≤ length jacobian) (l : length bench ≡ m * free_count (marks_of n marks)) where
   -- with no mark, as a copy of all
-  pub all_gathered : (y : List Float) {d : Reply (Unit {0})} → marks ≡ 0 → (d, y) ≡ copy (take (m * n) jacobian) bench → y ≡ free_columns m (marks_of n marks) jacobian
-  all_gathered y z e =
+  pub all_gathered : (y : List Float) (d : Result (Unit {0}) Refusal) → marks ≡ 0 → (reply_of d, y) ≡ copy (take (m * n) jacobian) bench → Done d y (free_columns m (marks_of n marks) jacobian)
+  all_gathered y d z e =
       let f : m * free_count (marks_of n marks) ≡ m * n = ap (λ (x : ℕ). m * free_count (marks_of n x)) z ∙ ap (λ (k : ℕ). m * k) (none_set n) in
       let t : length (take (m * n) jacobian) ≡ length bench = length-take-le (m * n) jacobian j ∙ sym (l ∙ f) in
-      copy_leaves (take (m * n) jacobian) bench y t e ∙ sym (ap (λ (x : ℕ). free_columns m (marks_of n x) jacobian) z ∙ columns_whole m n jacobian)
+      let q = done d (e ∙ sym (copy_is (take (m * n) jacobian) bench (take (m * n) jacobian) t refl)) in
+      (q.0, q.1 ∙ sym (ap (λ (x : ℕ). free_columns m (marks_of n x) jacobian) z ∙ columns_whole m n jacobian))
 
-  pub free_gathered : (y : List Float) {d : Reply (Unit {0})} → outside m n ≡ false → (d, y) ≡ columns_call m n marks jacobian bench → y ≡ free_columns m (marks_of n marks) jacobian
-  free_gathered y i e =
+  pub free_gathered : (y : List Float) (d : Result (Unit {0}) Refusal) → outside m n ≡ false → (reply_of d, y) ≡ columns_call m n marks jacobian bench
+      → Done d y (free_columns m (marks_of n marks) jacobian)
+  free_gathered y d i e =
       let g = free_columns m (marks_of n marks) jacobian in
-      let done = columns_done m n marks jacobian bench i j g (omega arith) refl in
+      let all = columns_done m n marks jacobian bench i j g (omega arith) refl in
       let none : drop (m * free_count (marks_of n marks)) bench ≡ [] = drop_of_length-le bench {i = m * free_count (marks_of n marks)} (omega arith) in
-      ap (λ (x : Reply (Unit {0}) × List Float). x.1) (e ∙ sym done) ∙ (ap (λ (x : List Float). g ++ x) none ∙ append_nil g)
+      let q = done d (e ∙ sym all) in
+      (q.0, q.1 ∙ (ap (λ (x : List Float). g ++ x) none ∙ append_nil g))
 
 -- ---- the free columns of finite columns are finite
 finite-both : (a b : List Float) → all_finite (a ++ b) ≡ true → (all_finite a ≡ true) × (all_finite b ≡ true)
@@ -161,14 +166,9 @@ module _ (m n marks free : ℕ) (jacobian residuals : List Float) (r : Factorabl
       (passed_iff (plain.factor_tests m free g residuals store order bench) refl).1 (within m free small_inside, (three, (six, (more, tt))))
 
   -- the residuals behind the free columns, as they are gathered and copied
-  pub bench_filled : (b y z : List Float) {d : Reply (Unit {0})} → bench_need m free ≤ length b → y ≡ free_columns m (marks_of n marks) jacobian
-      → (d, z) ≡ copy (take m residuals) (take (m * free + m - m * free) (drop (m * free) (y ++ drop (m * free) b)))
+  pub bench_filled : (b y z : List Float) → bench_need m free ≤ length b → y ≡ free_columns m (marks_of n marks) jacobian → z ≡ take m residuals
       → take (m * free) (y ++ drop (m * free) b) ++ (z ++ drop (m * free + m - m * free) (drop (m * free) (y ++ drop (m * free) b)))
       ≡ free_columns m (marks_of n marks) jacobian ++ (take m residuals ++ drop (bench_need m free) b)
   bench_filled b y z l ey ez =
       let ly : length y ≡ m * free = ap length ey ∙ gathered_long in
-      let w : m * free + m - m * free ≡ m = omega arith in
-      let lm : length (take m residuals) ≡ m = length-take-le m residuals r.residuals_long in
-      let lp : length (take (m * free + m - m * free) (drop (m * free) (y ++ drop (m * free) b))) ≡ m = rw w (second_long (m * free) m y b ly l) in
-      let c : z ≡ take m residuals = copy_leaves (take m residuals) _ z (lm ∙ sym lp) ez in
-      two_laid (m * free) (m * free + m) y z b ly (omega arith) ∙ rw (ey, c) (append_assoc (free_columns m (marks_of n marks) jacobian) (take m residuals) (drop (bench_need m free) b))
+      two_laid (m * free) (m * free + m) y z b ly (omega arith) ∙ rw (ey, ez) (append_assoc (free_columns m (marks_of n marks) jacobian) (take m residuals) (drop (bench_need m free) b))

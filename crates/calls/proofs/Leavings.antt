@@ -9,10 +9,10 @@ use lib.Seq.{take_at, take-take, get_or-append-add, length-take-le}
 use lib.Ieee.{Float}
 use Rattle.leaves.specs.Loop.{count_from}
 use Rattle.leaves.specs.Number.{plus_zero}
-use Rattle.leaves.specs.Reply.{Reply}
+use Rattle.std.specs.Prelude.{Result}
+use Rattle.leaves.specs.declared.reply.Refusal.{Refusal}
+use Rattle.leaves.specs.Reply.{reply_of}
 use Rattle.leaves.specs.Square.{zeros}
-use Rattle.leaves.specs.Vector.{copy}
-use Rattle.leaves.proofs.Folds.{copy_leaves}
 use Rattle.leaves.proofs.Insides.{within}
 use Rattle.leaves.proofs.Splices.{lent, filled, drop_front}
 use Rattle.frozen.specs.Narrowed.{spread_out, spread_call}
@@ -20,6 +20,7 @@ use Rattle.frozen.proofs.Spreads.{spread_out-length, spread_done}
 use Rattle.factor.specs.State.{store_need}
 use Rattle.factor.specs.Outcome.{written}
 use Rattle.leaves.proofs.Overs.{over, count-length, count_at}
+use Rattle.calls.proofs.Ways.{Done, done}
 
 -- ---- an order list whose remaining places continue the count
 abbrev pub counted : ℕ → List ℕ → List ℕ
@@ -86,14 +87,15 @@ all_cleared p q b bench h e =
     rw (f, take_at (zeros p) (drop p bench) p lp, d, lq) (sym (append_assoc (zeros p) (zeros (q - p)) (drop q bench)) ∙ ap (λ (l : List Float). l ++ drop q bench) w)
 
 -- ---- the reduced problem's store in the lent one
-spread_leaves : (n free : ℕ) (small store y : List Float) {d : Reply (Unit {0})} → 0 < free → free ≤ n → n ≤ 16 → length small ≡ store_need free → store_need n ≤ length store
-    → (d, y) ≡ spread_call n free small store → y ≡ written (spread_out n free small) store
-spread_leaves n free small store y p h k ls l e =
+spread_leaves : (n free : ℕ) (small store y : List Float) (d : Result (Unit {0}) Refusal) → 0 < free → free ≤ n → n ≤ 16 → length small ≡ store_need free → store_need n ≤ length store
+    → (reply_of d, y) ≡ spread_call n free small store → Done d y (written (spread_out n free small) store)
+spread_leaves n free small store y d p h k ls l e =
     let i = within 1 n (record { rows_some = omega arith; rows_few = omega arith; cols_some = omega arith; cols_few = k }) in
     let j = within 1 free (record { rows_some = omega arith; rows_few = omega arith; cols_some = p; cols_few = omega arith }) in
-    let done = spread_done n free small store i j h (omega arith) l in
+    let all = spread_done n free small store i j h (omega arith) l in
     let z : length (spread_out n free small) ≡ store_need n = spread_out-length n free small h (omega arith) in
-    ap (λ (x : Reply (Unit {0}) × List Float). x.1) (e ∙ sym done) ∙ rw z refl
+    let q = done d (e ∙ sym all) in
+    (q.0, q.1 ∙ rw z refl)
 
 pub need_within : (n free : ℕ) → free ≤ n → store_need free ≤ store_need n
 need_within n free h = let q = mul-le-mul h h in omega arith
@@ -102,14 +104,12 @@ pub need_small : (n free : ℕ) → free ≤ n → n ≤ 16 → store_need free 
 need_small n free h k = let l : free ≤ 16 = omega arith in let q = mul-le-mul l l in omega arith
 
 -- copied out of the lent one's first places, and back
-pub spread_back : (n free need : ℕ) (store small z y : List Float) {d e : Reply (Unit {0})} → 0 < free → free ≤ n → n ≤ 16 → store_need n ≤ length store → need ≡ store_need free
-    → need ≤ length small → (d, z) ≡ copy (take need store) (take need small) → (e, y) ≡ spread_call n free (take need (z ++ drop need small)) store
-    → y ≡ written (spread_out n free (take (store_need free) store)) store
-spread_back n free need store small z y p h k l en f ez ey =
+pub spread_back : (n free need : ℕ) (store small z y : List Float) (d : Result (Unit {0}) Refusal) → 0 < free → free ≤ n → n ≤ 16 → store_need n ≤ length store → need ≡ store_need free
+    → z ≡ take need store → (reply_of d, y) ≡ spread_call n free (take need (z ++ drop need small)) store
+    → Done d y (written (spread_out n free (take (store_need free) store)) store)
+spread_back n free need store small z y d p h k l en ez ey =
     let w = need_within n free h in
     let ls : length (take need store) ≡ need = length-take-le need store (omega arith) in
-    let lz : length (take need store) ≡ length (take need small) = ls ∙ sym (length-take-le need small f) in
-    let c : z ≡ take need store = copy_leaves (take need store) (take need small) z lz ez in
-    let t : take need (z ++ drop need small) ≡ take need store = take_at z (drop need small) need (ap length c ∙ ls) ∙ c in
-    let g = spread_leaves n free (take need store) store y p h k (ls ∙ en) l (rw t at ey) in
-    g ∙ ap (λ (i : ℕ). written (spread_out n free (take i store)) store) en
+    let t : take need (z ++ drop need small) ≡ take need store = take_at z (drop need small) need (ap length ez ∙ ls) ∙ ez in
+    let g = spread_leaves n free (take need store) store y d p h k (ls ∙ en) l (rw t at ey) in
+    (g.0, g.1 ∙ ap (λ (i : ℕ). written (spread_out n free (take i store)) store) en)

@@ -7,20 +7,13 @@ use contract.Lifetimes.{Lfts}
 use borrow.Fn.World.{ArgsD}
 use borrow.Fn.Kinds.{ended_of}
 use denote.Triple.Clauses.{AtExit}
-use Rattle.leaves.specs.declared.reply.Place.{Place}
-use Rattle.leaves.specs.declared.reply.Measured.{Measured}
+use Rattle.leaves.specs.declared.reply.Told.{Told}
+use Rattle.leaves.specs.declared.norm.Normed.{Normed}
 use Rattle.leaves.specs.declared.norm.Ranges.{Ranges}
-use Rattle.leaves.proofs.Replies.{place_of-same, measured_of-same}
-use Rattle.factor.specs.declared.answer.Truth.{Truth}
-use Rattle.measures.specs.declared.gradient.Gradient.{Gradient}
-use Rattle.factor.proofs.Answers.{truth_of-same}
-use Rattle.measures.proofs.Answers.{gradient_of-same}
+use Rattle.leaves.proofs.Replies.{reply_of-same, measured_of-same}
+use Rattle.factor.proofs.Answers.{told_same}
 use Rattle.calls.specs.Outcome.{MarkedTold}
 use Rattle.calls.specs.declared.state.State.{State}
-use Rattle.calls.specs.declared.state.GradientTold.{GradientTold}
-use Rattle.calls.specs.declared.state.MeasuredTold.{MeasuredTold}
-use Rattle.calls.specs.declared.state.PlaceTold.{PlaceTold}
-use Rattle.calls.specs.declared.state.TruthTold.{TruthTold}
 use Rattle.calls.specs.contracts.above.above_limit.{signature as above-limit-signature}
 use Rattle.calls.proofs.above.above_limit.Reads as above-limit
 use Rattle.calls.proofs.above.above_limit.Kinds as above-limit-kinds
@@ -37,48 +30,32 @@ use Rattle.calls.specs.contracts.measure.is_non_singular.{signature as is-non-si
 use Rattle.calls.proofs.measure.is_non_singular.Reads as is-non-singular
 use Rattle.calls.proofs.measure.is_non_singular.Kinds as is-non-singular-kinds
 
-gradient-told : {r t : GradientTold} → r.answer ≡ t.answer → r.state ≡ t.state → r ≡ t
-gradient-told {r = r} {t = t} e f =
-    ap (λ (a : Gradient). record { answer = a; state = r.state }) e ∙ ap (λ (s : State). record { answer = t.answer; state = s }) f
-
-pub max_a_t_b_scaled-one_outcome : (κs : Lfts 2) (a : ArgsD max-a-t-b-scaled-signature κs) (r₁ r₂ : GradientTold) (s₁ s₂ : AtExit (ended_of 2 max-a-t-b-scaled-kinds.ps max-a-t-b-scaled-kinds.r) κs)
+pub max_a_t_b_scaled-one_outcome : (κs : Lfts 2) (a : ArgsD max-a-t-b-scaled-signature κs) (r₁ r₂ : Told Float State) (s₁ s₂ : AtExit (ended_of 2 max-a-t-b-scaled-kinds.ps max-a-t-b-scaled-kinds.r) κs)
     → max-a-t-b-scaled.Post κs a r₁ s₁ → max-a-t-b-scaled.Post κs a r₂ s₂ → (r₁ ≡ r₂) × (s₁.1.0.now ≡ s₂.1.0.now)
 max_a_t_b_scaled-one_outcome κs a r₁ r₂ s₁ s₂ p q =
     let e = p ∙ sym q in
-    (gradient-told (gradient_of-same r₁.answer r₂.answer (ap (λ (x : MarkedTold Float). x.reply) e)) (ap (λ (x : MarkedTold Float). x.state) e), ap (λ (x : MarkedTold Float). x.store) e)
+    (told_same r₁ r₂ (reply_of-same r₁.answer r₂.answer (ap (λ (x : MarkedTold Float). x.reply) e)) (ap (λ (x : MarkedTold Float). x.state) e), ap (λ (x : MarkedTold Float). x.store) e)
 
-measured-told : {r t : MeasuredTold} → r.answer ≡ t.answer → r.state ≡ t.state → r ≡ t
-measured-told {r = r} {t = t} e f =
-    ap (λ (a : Measured). record { answer = a; state = r.state }) e ∙ ap (λ (s : State). record { answer = t.answer; state = s }) f
-
-pub a_x_norm-one_outcome : (κs : Lfts 3) (a : ArgsD a-x-norm-signature κs) (r₁ r₂ : MeasuredTold) (s₁ s₂ : AtExit (ended_of 3 a-x-norm-kinds.ps a-x-norm-kinds.r) κs)
+pub a_x_norm-one_outcome : (κs : Lfts 3) (a : ArgsD a-x-norm-signature κs) (r₁ r₂ : Told Normed State) (s₁ s₂ : AtExit (ended_of 3 a-x-norm-kinds.ps a-x-norm-kinds.r) κs)
     → a-x-norm.Post κs a r₁ s₁ → a-x-norm.Post κs a r₂ s₂ → (r₁ ≡ r₂) × (s₁.1.0.now ≡ s₂.1.0.now)
 a_x_norm-one_outcome κs a r₁ r₂ s₁ s₂ p q =
     let e = p ∙ sym q in
-    (measured-told (measured_of-same r₁.answer r₂.answer (ap (λ (x : MarkedTold (Float × Ranges)). x.reply) e)) (ap (λ (x : MarkedTold (Float × Ranges)). x.state) e), ap (λ (x : MarkedTold (Float × Ranges)). x.store) e)
+    (told_same r₁ r₂ (measured_of-same r₁.answer r₂.answer (ap (λ (x : MarkedTold (Float × Ranges)). x.reply) e)) (ap (λ (x : MarkedTold (Float × Ranges)). x.state) e), ap (λ (x : MarkedTold (Float × Ranges)). x.store) e)
 
-place_told : {r t : PlaceTold} → r.answer ≡ t.answer → r.state ≡ t.state → r ≡ t
-place_told {r = r} {t = t} e f =
-    ap (λ (a : Place). record { answer = a; state = r.state }) e ∙ ap (λ (s : State). record { answer = t.answer; state = s }) f
-
-pub determined-one_outcome : (κs : Lfts 1) (a : ArgsD determined-signature κs) (r₁ r₂ : PlaceTold) (s₁ s₂ : AtExit (ended_of 1 determined-kinds.ps determined-kinds.r) κs)
+pub determined-one_outcome : (κs : Lfts 1) (a : ArgsD determined-signature κs) (r₁ r₂ : Told ℕ State) (s₁ s₂ : AtExit (ended_of 1 determined-kinds.ps determined-kinds.r) κs)
     → determined.Post κs a r₁ s₁ → determined.Post κs a r₂ s₂ → (r₁ ≡ r₂) × (s₁.1.0.now ≡ s₂.1.0.now)
 determined-one_outcome κs a r₁ r₂ s₁ s₂ p q =
     let e = p ∙ sym q in
-    (place_told (place_of-same r₁.answer r₂.answer (ap (λ (x : MarkedTold ℕ). x.reply) e)) (ap (λ (x : MarkedTold ℕ). x.state) e), ap (λ (x : MarkedTold ℕ). x.store) e)
+    (told_same r₁ r₂ (reply_of-same r₁.answer r₂.answer (ap (λ (x : MarkedTold ℕ). x.reply) e)) (ap (λ (x : MarkedTold ℕ). x.state) e), ap (λ (x : MarkedTold ℕ). x.store) e)
 
-truth_told : {r t : TruthTold} → r.answer ≡ t.answer → r.state ≡ t.state → r ≡ t
-truth_told {r = r} {t = t} e f =
-    ap (λ (a : Truth). record { answer = a; state = r.state }) e ∙ ap (λ (s : State). record { answer = t.answer; state = s }) f
-
-pub is_non_singular-one_outcome : (κs : Lfts 1) (a : ArgsD is-non-singular-signature κs) (r₁ r₂ : TruthTold) (s₁ s₂ : AtExit (ended_of 1 is-non-singular-kinds.ps is-non-singular-kinds.r) κs)
+pub is_non_singular-one_outcome : (κs : Lfts 1) (a : ArgsD is-non-singular-signature κs) (r₁ r₂ : Told Bool State) (s₁ s₂ : AtExit (ended_of 1 is-non-singular-kinds.ps is-non-singular-kinds.r) κs)
     → is-non-singular.Post κs a r₁ s₁ → is-non-singular.Post κs a r₂ s₂ → (r₁ ≡ r₂) × (s₁.1.0.now ≡ s₂.1.0.now)
 is_non_singular-one_outcome κs a r₁ r₂ s₁ s₂ p q =
     let e = p ∙ sym q in
-    (truth_told (truth_of-same r₁.answer r₂.answer (ap (λ (x : MarkedTold Bool). x.reply) e)) (ap (λ (x : MarkedTold Bool). x.state) e), ap (λ (x : MarkedTold Bool). x.store) e)
+    (told_same r₁ r₂ (reply_of-same r₁.answer r₂.answer (ap (λ (x : MarkedTold Bool). x.reply) e)) (ap (λ (x : MarkedTold Bool). x.state) e), ap (λ (x : MarkedTold Bool). x.store) e)
 
-pub above_limit-one_outcome : (κs : Lfts 2) (a : ArgsD above-limit-signature κs) (r₁ r₂ : TruthTold) (s₁ s₂ : AtExit (ended_of 2 above-limit-kinds.ps above-limit-kinds.r) κs)
+pub above_limit-one_outcome : (κs : Lfts 2) (a : ArgsD above-limit-signature κs) (r₁ r₂ : Told Bool State) (s₁ s₂ : AtExit (ended_of 2 above-limit-kinds.ps above-limit-kinds.r) κs)
     → above-limit.Post κs a r₁ s₁ → above-limit.Post κs a r₂ s₂ → (r₁ ≡ r₂) × (s₁.1.0.now ≡ s₂.1.0.now)
 above_limit-one_outcome κs a r₁ r₂ s₁ s₂ p q =
     let e = p ∙ sym q in
-    (truth_told (truth_of-same r₁.answer r₂.answer (ap (λ (x : MarkedTold Bool). x.reply) e)) (ap (λ (x : MarkedTold Bool). x.state) e), ap (λ (x : MarkedTold Bool). x.store) e)
+    (told_same r₁ r₂ (reply_of-same r₁.answer r₂.answer (ap (λ (x : MarkedTold Bool). x.reply) e)) (ap (λ (x : MarkedTold Bool). x.state) e), ap (λ (x : MarkedTold Bool). x.store) e)

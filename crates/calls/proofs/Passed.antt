@@ -1,5 +1,5 @@
 -- What is known once the tests are passed, and a call by its marks and its tests. Assumes nothing.
-use mathlib.Core.Path.{◌≡◌, refl, sym, ◌∙◌}
+use mathlib.Core.Path.{◌≡◌, refl, sym, ap, ◌∙◌}
 use mathlib.Core.Bool.{Bool, true, false}
 use mathlib.Core.List.{List, [], ◌∷◌, ◌++◌}
 use Prim.Native.Nat.{ℕ, zero, suc, ◌≤◌}
@@ -9,9 +9,14 @@ use lib.Dec.{ltb}
 use lib.ListN.{length}
 use lib.Ieee.{Float}
 use borrow.Author.Tests.{ltb-false, eqb-false, eq-eqb, ne_eqb}
+use Rattle.std.specs.Prelude.{Result, Ok, Err}
+use Rattle.std.specs.Result.{IsErrAnd}
+use Rattle.leaves.specs.declared.reply.Refusal.{Refusal}
+use Rattle.leaves.specs.Reply.{refusal_number, failed_by}
 use Rattle.leaves.specs.Tests.{outside, Test, first_of}
 use Rattle.leaves.specs.Refusing.{NoneHold}
-use Rattle.leaves.proofs.Refusals.{numbered, passed_iff, none_of_both, call-refused, call-worked}
+use Rattle.leaves.proofs.Replies.{refusal_number-some}
+use Rattle.leaves.proofs.Refusals.{numbered, passed_iff, none_of_both, stopped, call-refused, call-worked}
 use Rattle.leaves.proofs.Insides.{neither, Inside, inside}
 use Rattle.leaves.proofs.Folds.{nonzero}
 use Rattle.frozen.specs.Frozen.{marks_of, mark_past, free_count, is_set, next_of}
@@ -70,7 +75,12 @@ module _ (st : State) (store : List Float) (shortest : ℕ) where
       let h = none_of_both ts us ((passed_iff (ts ++ us) q).0 e) in
       none_ready h.0 (none_of_both more (free_test st ∷ []) h.1).1
 
--- ---- a call by its marks and its tests: `if marks == 0 { .. }`, `if c != 0 { refused c }`, the working
+-- ---- what a `?` hands on from the tests ts, where the tests us would follow
+pub first_failed : (ts us : List Test) (r : Result (Unit {0}) Refusal) (j : Refusal) → IsErrAnd r (λ k. k ≡ j) → refusal_number j ≡ first_of ts → failed_by r ≡ first_of (ts ++ us)
+first_failed ts us (Ok x) j h e = absurd h
+first_failed ts us (Err k) j h e = ap refusal_number h ∙ sym (stopped ts us (refusal_number j) e (refusal_number-some j))
+
+-- ---- a call by its marks and its tests: `if marks == 0 { .. }`, the refusal of the tests, the working
 module _ {A : Type 0} (marks : ℕ) (tests : List Test) (unmarked worked : A) (refusal : ℕ → A) where
   pub by_no_mark : marks ≡ 0 → unmarked ≡ call_by marks tests unmarked worked refusal
   by_no_mark e = rw (eq-eqb marks 0 e, call_by)

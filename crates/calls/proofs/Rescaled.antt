@@ -7,11 +7,13 @@ use lib.ListN.{length, take, drop, replicate, length-replicate}
 use lib.Seq.{length-take-le}
 use lib.Ieee.{Float}
 use Rattle.leaves.specs.Number.{one}
-use Rattle.leaves.specs.Reply.{Reply, refused}
+use Rattle.std.specs.Prelude.{Result}
+use Rattle.leaves.specs.declared.reply.Refusal.{Refusal}
+use Rattle.leaves.specs.Reply.{Reply, refused, refusal_number, reply_of}
+use Rattle.leaves.proofs.Replies.{refusal_number-some}
 use Rattle.leaves.specs.Tests.{first_of}
 use Rattle.frozen.specs.Frozen.{free_of}
 use Rattle.frozen.specs.Moved.{gather_call}
-use Rattle.frozen.specs.Narrowed.{narrowed}
 use Rattle.factor.specs.Tests.{finite_test, finite_number, not_above}
 use Rattle.factor.specs.Outcome as outcome
 use Rattle.factor.specs.declared.state.State.{State as Plain}
@@ -23,9 +25,9 @@ use Rattle.measures.specs.inner.Reads.{parameters_read}
 use Rattle.calls.specs.declared.state.State.{State}
 use Rattle.calls.specs.State.{marked, marks_in, cols, whole, without_frozen}
 use Rattle.calls.specs.Tests.{marked_room_tests, free_test}
-use Rattle.calls.specs.Outcome.{MarkedEnded, marked_ended, ended_as, narrowed_in, rested_store}
-use Rattle.calls.specs.Rescale.{marked_first_tests, marked_scaling_tests, frozen_entries, scaling_out, scaled_by, marked_scaling}
-use Rattle.calls.proofs.Backs.{of_reduced, put_back}
+use Rattle.calls.specs.Outcome.{MarkedEnded, marked_ended, ended_as, narrowed_in}
+use Rattle.calls.specs.Rescale.{marked_first_tests, marked_scaling_tests, frozen_entries, scaled_by, marked_scaling}
+use Rattle.calls.proofs.Backs.{put_back}
 use Rattle.calls.proofs.Passed.{Ready, room_ready, by_no_mark, by_refusal, by_working}
 use Rattle.calls.proofs.Ways.{gather-worked}
 
@@ -67,9 +69,8 @@ scaling_lent st mode.FirstUnscaled store diag x bound e = first_ready st store d
 scaling_lent st mode.LaterScaled store diag x bound e = (room_ready st store (length diag) (finite_test (whole st) diag ∷ []) refl e, omega arith)
 scaling_lent st mode.LaterUnscaled store diag x bound e = (room_ready st store (length diag) [] refl e, omega arith)
 
-pub scaling_ready : (st : State) (md : Mode) (store diag x : List Float) (bound : Float) {c : ℕ} → c ≡ first_of (marked_scaling_tests st md (length store) diag x bound) → c ≡ 0
-    → Lent st md store diag x
-scaling_ready st md store diag x bound e z = scaling_lent st md store diag x bound (sym e ∙ z)
+pub scaling_ready : (st : State) (md : Mode) (store diag x : List Float) (bound : Float) → 0 ≡ first_of (marked_scaling_tests st md (length store) diag x bound) → Lent st md store diag x
+scaling_ready st md store diag x bound e = scaling_lent st md store diag x bound (sym e)
 
 -- ---- what stands at a frozen column afterwards
 module _ (n : ℕ) (diag : List Float) {md : Mode} where
@@ -78,28 +79,12 @@ module _ (n : ℕ) (diag : List Float) {md : Mode} where
   entries_filled y e h f =
       rw e (put_back n diag (replicate n one) h (ap length f ∙ length-replicate (length (take n diag)) one) (f ∙ ap (λ (k : ℕ). replicate k one) (length-take-le n diag h)))
 
-  pub first_kept : md ≡ mode.FirstUnscaled → diag ≡ frozen_entries md n diag
-  unfolding frozen_entries
-  first_kept e = rw e
-
-  pub scaled-kept : md ≡ mode.LaterScaled → diag ≡ frozen_entries md n diag
-  unfolding frozen_entries
-  scaled-kept e = rw e
-
-  pub unscaled_kept : md ≡ mode.LaterUnscaled → diag ≡ frozen_entries md n diag
-  unfolding frozen_entries
-  unscaled_kept e = rw e
-
--- ---- the working: b is the answer that the match handed on
-module _ (st : State) (md : Mode) (diag store : List Float) (call : Plain → List Float → outcome.Ended Scaled) {free : ℕ} {p q : Plain} {small t d : List Float} {a : Reply Scaled}
-    (f : free ≡ cols st) (n : small ≡ narrowed st.n free store) (w : p ≡ without_frozen st) (h : outcome.ended a q t d ≡ call p small) where
-  pub scaled_back : {b : Reply Scaled} {s o : List Float} → a ≡ b → s ≡ rested_store st store → o ≡ scaling_out st md b d diag
-      → marked_ended b st s o ≡ scaled_by st md diag store (call (without_frozen st) (narrowed_in st store))
-  scaled_back {b} {s} {o} e l g =
-      ap (λ (x : List Float). marked_ended b st x o) l
-      ∙ ap (λ (x : List Float). marked_ended b st (rested_store st store) x) g
-      ∙ ap (λ (r : Reply Scaled). marked_ended r st (rested_store st store) (scaling_out st md r d diag)) (sym e)
-      ∙ ap (λ (r : outcome.Ended Scaled). scaled_by st md diag store r) (h ∙ of_reduced call st store w f n)
+pub others_kept : (n : ℕ) (diag : List Float) (md : Mode) → (md ≡ mode.FirstScaled → ⊥) → diag ≡ frozen_entries md n diag
+unfolding frozen_entries
+others_kept n diag mode.FirstScaled h = absurd (h refl)
+others_kept n diag mode.FirstUnscaled h = refl
+others_kept n diag mode.LaterScaled h = refl
+others_kept n diag mode.LaterUnscaled h = refl
 
 -- ---- x is read by the first call alone
 scaling_read : (p : Plain) (md : Mode) (d : List Float) {xs ys : List Float} (bound : Float) (s : List Float) (n k : ℕ) → parameters_read md n ≤ k → (n ≤ k → xs ≡ ys)
@@ -126,20 +111,19 @@ module _ (st : State) (md : Mode) (diag x : List Float) (bound : Float) (s : Lis
       ∙ ap (λ (r : outcome.Ended Scaled). ended_as st r) (h ∙ ap (λ (z : Plain). plain.scaling_call z md diag x bound s) w)
       ∙ by_no_mark st.marks (marked_scaling_tests st md (length s) diag x bound) unmarked worked (λ k. marked_ended (refused k) st s diag) m
 
-  module _ {c : ℕ} (m : st.marks ≡ 0 → ⊥) (e : c ≡ first_of (marked_scaling_tests st md (length s) diag x bound)) where
-    pub scaling_refused : (c ≡ 0 → ⊥) → marked_ended (refused c) st s diag ≡ marked_scaling st md diag x bound s
-    unfolding marked_scaling
-    scaling_refused h = by_refusal st.marks (marked_scaling_tests st md (length s) diag x bound) unmarked worked (λ k. marked_ended (refused k) st s diag) m e h
+  pub scaling_refused : (r : Refusal) → (st.marks ≡ 0 → ⊥) → refusal_number r ≡ first_of (marked_scaling_tests st md (length s) diag x bound)
+      → marked_ended (refused (refusal_number r)) st s diag ≡ marked_scaling st md diag x bound s
+  unfolding marked_scaling
+  scaling_refused r m e = by_refusal st.marks (marked_scaling_tests st md (length s) diag x bound) unmarked worked (λ k. marked_ended (refused k) st s diag) m e (refusal_number-some r)
 
-    -- w: what was lent for the gathered x
-    pub scaling_worked : c ≡ 0 → {r : MarkedEnded Scaled} {d ys xs : List Float} (w : List Float) {u : Reply (Unit {0})} → d ≡ free_of (marks_in st) diag
-        → length w ≡ cols st → (u, xs) ≡ gather_call st.n st.marks x w → ys ≡ xs
-        → r ≡ scaled_by st md diag s (plain.scaling_call (without_frozen st) md d ys bound (narrowed_in st s)) → r ≡ marked_scaling st md diag x bound s
-    unfolding marked_scaling
-    scaling_worked z {ys = ys} {xs} w f l g y h =
-        let k = (scaling_ready st md s diag x bound e z).1 in
-        let q = scaling_read (without_frozen st) md (free_of (marks_in st) diag) bound (narrowed_in st s) st.n (length x) k (λ (i : st.n ≤ length x). y ∙ gather-worked st.n st.marks x w xs i l g) in
-        h
-        ∙ ap (λ (v : List Float). scaled_by st md diag s (plain.scaling_call (without_frozen st) md v ys bound (narrowed_in st s))) f
-        ∙ ap (λ (r : outcome.Ended Scaled). scaled_by st md diag s r) q
-        ∙ by_working st.marks (marked_scaling_tests st md (length s) diag x bound) unmarked worked (λ k. marked_ended (refused k) st s diag) m e z
+  -- w: what was lent for the gathered x
+  pub scaling_worked : (st.marks ≡ 0 → ⊥) → 0 ≡ first_of (marked_scaling_tests st md (length s) diag x bound) → {r : MarkedEnded Scaled} {ys xs : List Float} (w : List Float) (u : Result (Unit {0}) Refusal)
+      → length w ≡ cols st → (reply_of u, xs) ≡ gather_call st.n st.marks x w → ys ≡ xs
+      → r ≡ scaled_by st md diag s (plain.scaling_call (without_frozen st) md (free_of (marks_in st) diag) ys bound (narrowed_in st s)) → r ≡ marked_scaling st md diag x bound s
+  unfolding marked_scaling
+  scaling_worked m e {ys = ys} {xs} w u l g y h =
+      let k = (scaling_ready st md s diag x bound e).1 in
+      let q = scaling_read (without_frozen st) md (free_of (marks_in st) diag) bound (narrowed_in st s) st.n (length x) k (λ (i : st.n ≤ length x). y ∙ (gather-worked st.n st.marks x w xs u i l g).1) in
+      h
+      ∙ ap (λ (r : outcome.Ended Scaled). scaled_by st md diag s r) q
+      ∙ by_working st.marks (marked_scaling_tests st md (length s) diag x bound) unmarked worked (λ k. marked_ended (refused k) st s diag) m e refl

@@ -1,6 +1,7 @@
--- What the calls share that are no solve: a store for the problem without the frozen columns, and the outcome read back from it. Assumes
--- nothing.
-use mathlib.Core.Path.{◌≡◌, ap, ◌∙◌}
+-- What the calls share that are no solve: a store for the problem without the frozen columns, and each call by its marks and its tests.
+-- Assumes nothing.
+use mathlib.Core.Path.{◌≡◌, refl, ap, ◌∙◌}
+use mathlib.Core.Bool.{true}
 use mathlib.Core.List.{List, ◌++◌}
 use Prim.Native.Nat.{ℕ, ◌*◌, ◌≤◌}
 use native.Mathlib.Nat.{mul-le-mul}
@@ -8,20 +9,24 @@ use native.Mathlib.Omega.{arith}
 use lib.ListN.{length, take, drop, replicate, length-replicate, length-append}
 use lib.Seq.{length-take-le, take_at}
 use lib.Ieee.{Float}
+use Rattle.std.specs.Prelude.{Result, is_ok}
 use Rattle.leaves.specs.Number.{plus_zero, one}
-use Rattle.leaves.specs.Reply.{Reply, refused}
+use Rattle.leaves.specs.declared.reply.Refusal.{Refusal}
+use Rattle.leaves.specs.Reply.{Reply, refused, refusal_number, reply_of}
+use Rattle.leaves.proofs.Replies.{refusal_number-some}
 use Rattle.leaves.specs.Tests.{Test, first_of}
 use Rattle.leaves.proofs.Overs.{lent_long}
-use Rattle.frozen.specs.Narrowed.{narrowed}
 use Rattle.factor.specs.State.{store_need}
-use Rattle.factor.specs.Room.{load, lay, rested}
+use Rattle.factor.specs.Outcome.{read}
 use Rattle.factor.specs.Outcome as plain
+use Rattle.factor.specs.Parts.{rest_in}
 use Rattle.factor.specs.declared.state.State.{State as Plain}
 use Rattle.calls.specs.declared.state.State.{State}
-use Rattle.calls.specs.State.{marked, cols, whole, without_frozen}
+use Rattle.calls.specs.State.{marked, cols, whole}
 use Rattle.calls.specs.Tests.{call_by}
-use Rattle.calls.specs.Outcome.{MarkedTold, marked_told, told_as, narrowed_in, rested_by}
+use Rattle.calls.specs.Outcome.{MarkedTold, marked_told, told_as, rested_by}
 use Rattle.calls.specs.inner.Reducible.{Reducible}
+use Rattle.calls.proofs.Ways.{rest_worked as rested}
 use Rattle.calls.proofs.Passed.{Ready, by_no_mark, by_refusal, by_working}
 
 -- ---- the first of 320 numbers, lent as a store
@@ -60,15 +65,6 @@ module _ {free : ℕ} {room : List Float} (w : List Float) (e : room ≡ replica
   pub again_long : length (take free (w ++ drop free room)) ≡ free
   again_long = ap length again_same ∙ as_long
 
--- ---- the working: narrowed, worked out there, and work +0 in the lent store
-module _ {A : Type 0} (st : State) (store : List Float) (call : Plain → List Float → plain.Told A) where
-  pub rested-told : {free : ℕ} {p q : Plain} {small s t : List Float} {a : Reply A} → free ≡ cols st → small ≡ narrowed st.n free store → p ≡ without_frozen st
-      → plain.told a q t ≡ call p small → s ≡ lay (rested (load st.n store)) → marked_told a st s ≡ rested_by st store (call (without_frozen st) (narrowed_in st store))
-  rested-told {small = small} {s} e n d h l =
-      let in_small : small ≡ narrowed_in st store = n ∙ ap (λ (k : ℕ). narrowed st.n k store) e in
-      let r = ap (λ (x : plain.Told A). x.reply) (h ∙ ap (λ (x : Plain). call x small) d ∙ ap (λ (x : List Float). call (without_frozen st) x) in_small) in
-      ap (λ (x : Reply A). marked_told x st s) r ∙ ap (λ (x : List Float). marked_told (call (without_frozen st) (narrowed_in st store)).reply st x) l
-
 -- ---- the call: unmarked, the call that knows no marks, of its state
 module _ {A : Type 0} (st : State) (store : List Float) (tests : List Test) (unmarked : Plain → plain.Told A) (worked : plain.Told A) where
   abbrev pub rest_call : MarkedTold A
@@ -79,8 +75,15 @@ module _ {A : Type 0} (st : State) (store : List Float) (tests : List Test) (unm
   rest_unmarked {q = q} {t = t} {a} m d h e =
       ap (λ (x : State). marked_told a x t) e ∙ ap (told_as st) (h ∙ ap unmarked d) ∙ by_no_mark st.marks tests (told_as st (unmarked (whole st))) (rested_by st store worked) (λ k. marked_told (refused k) st store) m
 
-  pub rest_refused : {c : ℕ} → (st.marks ≡ 0 → ⊥) → c ≡ first_of tests → (c ≡ 0 → ⊥) → marked_told (refused c) st store ≡ rest_call
-  rest_refused m e h = by_refusal st.marks tests (told_as st (unmarked (whole st))) (rested_by st store worked) (λ k. marked_told (refused k) st store) m e h
+  pub rest_refused : (r : Refusal) → (st.marks ≡ 0 → ⊥) → refusal_number r ≡ first_of tests → marked_told (refused (refusal_number r)) st store ≡ rest_call
+  rest_refused r m e = by_refusal st.marks tests (told_as st (unmarked (whole st))) (rested_by st store worked) (λ k. marked_told (refused k) st store) m e (refusal_number-some r)
 
-  pub rest_worked : {c : ℕ} {r : MarkedTold A} → (st.marks ≡ 0 → ⊥) → c ≡ first_of tests → c ≡ 0 → r ≡ rested_by st store worked → r ≡ rest_call
-  rest_worked m e z h = h ∙ by_working st.marks tests (told_as st (unmarked (whole st))) (rested_by st store worked) (λ k. marked_told (refused k) st store) m e z
+  -- answered or refused by the call on the problem without the frozen columns, and then work cleared
+  module _ {shortest : ℕ} (r : Ready st store shortest) {a : Reply A} {s : List Float} (d : Result (Unit {0}) Refusal) (k : read (reply_of d) s ≡ rest_in st.n store) where
+    pub rest_worked : (st.marks ≡ 0 → ⊥) → 0 ≡ first_of tests → a ≡ worked.reply → marked_told a st s ≡ rest_call
+    rest_worked m e h =
+        rw (h, (rested r.reducible s d k).1) (by_working st.marks tests (told_as st (unmarked (whole st))) (rested_by st store worked) (λ k. marked_told (refused k) st store) m e refl)
+
+-- the clearing answers
+pub rest_granted : {st : State} {store s : List Float} {shortest : ℕ} → Ready st store shortest → (d : Result (Unit {0}) Refusal) → read (reply_of d) s ≡ rest_in st.n store → is_ok d ≡ true
+rest_granted {s = s} r d k = ap is_ok (rested r.reducible s d k).0

@@ -1,19 +1,20 @@
 -- The search with marks: each number by the tests before it, and the call by its marks, its tests and its working. Assumes nothing.
 use mathlib.Core.Path.{◌≡◌, refl, sym, ap, ◌∙◌}
 use mathlib.Core.Bool.{true, false, not}
-use mathlib.Core.List.{List, [], ◌∷◌, ◌++◌}
+use mathlib.Core.List.{List, [], ◌∷◌}
 use Prim.Native.Nat.{ℕ, ◌≤◌, min}
 use native.Mathlib.Omega.{arith}
 use lib.Dec.{ltb}
-use lib.ListN.{length, take, replicate, length-append}
-use lib.Seq.{length-take-le}
+use lib.ListN.{length, take}
 use lib.Ieee.{Float}
 use borrow.Author.Tests.{ltb-false}
-use Rattle.leaves.specs.Number.{is_finite, plus_zero}
-use Rattle.leaves.specs.Reply.{refused}
+use Rattle.leaves.specs.Number.{is_finite}
+use Rattle.leaves.specs.declared.reply.Refusal.{Refusal}
+use Rattle.leaves.specs.Reply.{refused, refusal_number}
+use Rattle.leaves.proofs.Replies.{refusal_number-some}
 use Rattle.leaves.specs.Square.{zeros}
 use Rattle.leaves.specs.Tests.{Test, first_of, none_zero, all_finite}
-use Rattle.leaves.proofs.Refusals.{stopped, test_met, went_to, past, passed_iff}
+use Rattle.leaves.proofs.Refusals.{test_met, went_to, past, passed_iff}
 use Rattle.leaves.proofs.Insides.{neither}
 use Rattle.frozen.specs.Frozen.{free_of}
 use Rattle.factor.specs.State.{store_need}
@@ -26,36 +27,32 @@ use Rattle.calls.specs.Tests.{form_test, marked_solve_tests, free_test}
 use Rattle.calls.specs.Outcome.{MarkedEnded, marked_ended, ended_as, narrowed_in, emptied_by}
 use Rattle.calls.specs.Search.{marked_search_tests, marked_search}
 use Rattle.calls.proofs.Passed.{Ready, room_ready, by_no_mark, by_refusal, by_working}
-use Rattle.calls.proofs.Backs.{of_lent}
 
 -- ---- the tests, in order
-module _ (st : State) (store : ℕ) (order : List ℕ) (diag : List Float) (radius lambda : Float) (out : ℕ) {c k : ℕ} (m : k ≡ min (length diag) out) (e : c ≡ first_of (marked_solve_tests st store order k)) where
-  abbrev first : List Test
+module _ (st : State) (store : ℕ) (order : List ℕ) (diag : List Float) (radius lambda : Float) (out : ℕ) {k : ℕ} (m : k ≡ min (length diag) out) where
+  abbrev pub first : List Test
   first = marked_solve_tests st store order (min (length diag) out)
 
-  abbrev numbers : List Test
+  abbrev pub numbers : List Test
   numbers =
       finite_test (whole st) diag ∷ finite_number radius ∷ finite_number lambda ∷ (not_above radius, 7) ∷ (below lambda, 7) ∷ (not (none_zero (take st.n diag)), 7) ∷ free_test st ∷ []
 
   abbrev all : ℕ
   all = first_of (marked_search_tests st store order diag radius lambda out)
 
-  tested : c ≡ first_of first
-  tested = e ∙ ap (λ (j : ℕ). first_of (marked_solve_tests st store order j)) m
+  pub tested : {c : ℕ} → c ≡ first_of (marked_solve_tests st store order k) → c ≡ first_of first
+  tested e = e ∙ ap (λ (j : ℕ). first_of (marked_solve_tests st store order j)) m
 
-  pub first_met : (c ≡ 0 → ⊥) → c ≡ all
-  first_met h = sym (stopped first numbers c tested h)
-
-  module _ (z : c ≡ 0) where
+  module _ (e : 0 ≡ first_of (marked_solve_tests st store order k)) where
     pub diag_long : st.n ≤ length diag
     diag_long =
-        let h = (passed_iff first refl).0 (sym tested ∙ z) in
+        let h = (passed_iff first refl).0 (sym (tested e)) in
         let j : ℕ = min (length order) (min (length diag) out) in
         let l : st.n ≤ j = ltb-false j st.n (neither (ltb store (store_need st.n)) (ltb j st.n) h.1.1.0).1 in
         omega arith
 
     to : {j : ℕ} → j ≡ first_of numbers → j ≡ all
-    to h = went_to first numbers refl tested z h
+    to h = went_to first numbers refl (tested e) refl h
 
     pub diag_met : not (all_finite (take st.n diag)) ≡ true → 6 ≡ all
     diag_met h = to (sym (test_met _ _ h))
@@ -91,13 +88,6 @@ pub record Lent (st : State) (order : List ℕ) (diag store out : List Float) (f
   pub diag_fits : st.n ≤ length diag
   pub out_fits : st.n ≤ length out
 
--- a room whose first places came back as w has them still
-pub front_fits : {free : ℕ} (w rest : List Float) → length w ≡ free → free ≤ length (w ++ rest)
-front_fits w rest l = let a = length-append w rest in omega arith
-
-pub front_long : {free : ℕ} (w rest : List Float) → length w ≡ free → length (take free (w ++ rest)) ≡ free
-front_long {free} w rest l = length-take-le free (w ++ rest) (front_fits w rest l)
-
 -- ---- the call
 module _ (st : State) (order : List ℕ) (diag : List Float) (radius lambda : Float) (store out : List Float) where
   abbrev tests : List Test
@@ -119,22 +109,21 @@ module _ (st : State) (order : List ℕ) (diag : List Float) (radius lambda : Fl
   unfolding marked_search
   search-unmarked m h = h ∙ by_no_mark st.marks tests unmarked worked refusal m
 
-  module _ {c : ℕ} (e : c ≡ first_of tests) where
-    pub search-refused : (st.marks ≡ 0 → ⊥) → (c ≡ 0 → ⊥) → refusal c ≡ marked_search st order diag radius lambda store out
+  pub search-refused : (r : Refusal) → (st.marks ≡ 0 → ⊥) → refusal_number r ≡ first_of tests → refusal (refusal_number r) ≡ marked_search st order diag radius lambda store out
+  unfolding marked_search
+  search-refused r m e = by_refusal st.marks tests unmarked worked refusal m e (refusal_number-some r)
+
+  module _ (e : 0 ≡ first_of tests) {free : ℕ} (f : free ≡ cols st) where
+    pub search-lent : Lent st order diag store out free
+    search-lent =
+        let more = form_test st order ∷ finite_test (whole st) diag ∷ finite_number radius ∷ finite_number lambda ∷ (not_above radius, 7) ∷ (below lambda, 7) ∷ (not (none_zero (take st.n diag)), 7) ∷ [] in
+        let r = room_ready st store (min (length order) (min (length diag) (length out))) more refl (sym e) in
+        let l = r.each_long in
+        record { ready = r; counted = f; order_fits = omega arith; diag_fits = omega arith; out_fits = omega arith }
+
+    pub search-worked : (st.marks ≡ 0 → ⊥) → {ds : List Float} {x : MarkedEnded Flagged} → ds ≡ free_of (marks_in st) diag → x ≡ working (take free order) ds (zeros (cols st))
+        → x ≡ marked_search st order diag radius lambda store out
     unfolding marked_search
-    search-refused m h = by_refusal st.marks tests unmarked worked refusal m e h
-
-    module _ (z : c ≡ 0) {free : ℕ} (f : free ≡ cols st) where
-      pub search-lent : Lent st order diag store out free
-      search-lent =
-          let more = form_test st order ∷ finite_test (whole st) diag ∷ finite_number radius ∷ finite_number lambda ∷ (not_above radius, 7) ∷ (below lambda, 7) ∷ (not (none_zero (take st.n diag)), 7) ∷ [] in
-          let r = room_ready st store (min (length order) (min (length diag) (length out))) more refl (sym e ∙ z) in
-          let l = r.each_long in
-          record { ready = r; counted = f; order_fits = omega arith; diag_fits = omega arith; out_fits = omega arith }
-
-      pub search-worked : (st.marks ≡ 0 → ⊥) → (d r : List Float) {x : MarkedEnded Flagged} → d ≡ free_of (marks_in st) diag → r ≡ replicate 16 plus_zero → x ≡ working (take free order) d (take free r)
-          → x ≡ marked_search st order diag radius lambda store out
-      unfolding marked_search
-      search-worked m d r g q h =
-          h ∙ ap (λ (y : List Float). working (take free order) y (take free r)) g
-          ∙ of_lent st store _ search-lent.ready f (λ (o : List ℕ) (y : List Float). working o (free_of (marks_in st) diag) y) order r q ∙ by_working st.marks tests unmarked worked refusal m e z
+    search-worked m g h =
+        h ∙ ap (λ (l : List Float). working (take free order) l (zeros (cols st))) g
+        ∙ ap (λ (k : ℕ). working (take k order) (free_of (marks_in st) diag) (zeros (cols st))) f ∙ by_working st.marks tests unmarked worked refusal m e refl

@@ -1,60 +1,55 @@
 // 02, #105, with #108: whether the gradient is above a limit.
 ghost use Rattle.std.specs.Prelude.{◌≡◌, length};
+ghost use Rattle.leaves.specs.Reply.{reply_of, failed_by};
 ghost use Rattle.leaves.specs.Tests.{first_of};
-ghost use Rattle.factor.specs.Answers.{truth_of};
-ghost use Rattle.factor.specs.State.{store_need};
 ghost use Rattle.measures.specs.Measures as plain;
 ghost use Rattle.calls.specs.State.{without_frozen as reduced_state};
-ghost use Rattle.calls.specs.Outcome.{marked_told, narrowed_in, rested_by};
+ghost use Rattle.calls.specs.Outcome.{marked_told, narrowed_in};
 ghost use Rattle.calls.specs.Measures.{marked_above_tests, marked_above};
-ghost use Rattle.calls.specs.inner.Reducible.{Reducible};
 
 use crate::check::{ordered, some_free};
-use crate::room::{narrow_in, rest_in, room320, store_need};
-use crate::state::{State, TruthTold, marked, reduced, whole};
-use factor::answer::Truth;
+use crate::lent::FrozenProblem;
+use crate::room::room320;
+use crate::state::{State, marked, whole};
+use factor::parts::rest;
 use frozen::marks::free_count;
 use leaves::number::is_finite;
+use leaves::reply::{Refusal, Told};
 
-fn check_above(st: State, store: usize, order: &[usize], bnorm: f64, limit: f64) -> u8
-    ensures { result ≡ first_of (marked_above_tests st store order.now bnorm limit) }
+fn check_above(
+    st: State,
+    store: usize,
+    order: &[usize],
+    bnorm: f64,
+    limit: f64,
+) -> Result<(), Refusal>
+    ensures { failed_by result ≡ first_of (marked_above_tests st store order.now bnorm limit) }
 {
-    let c = ordered(st, store, order.len(), order);
-    if c != 0 {
-        return c;
-    }
+    ordered(st, store, order.len(), order)?;
     if !is_finite(bnorm) {
-        return 6;
+        return Err(Refusal::NotFinite);
     }
     if !is_finite(limit) {
-        return 6;
+        return Err(Refusal::NotFinite);
     }
     if bnorm <= 0.0 {
-        return 7;
+        return Err(Refusal::Range);
     }
     if limit < 0.0 {
-        return 7;
+        return Err(Refusal::Range);
     }
     some_free(st)
 }
 
-fn above_frozen(
-    st: State,
-    free: usize,
-    store: &mut [f64],
-    order: &[usize],
-    bnorm: f64,
-    limit: f64,
-    small: &mut [f64],
-) -> Truth
-    requires reducible { Reducible st.n st.marks free store.old }
-    requires small_len { length small.old ≡ store_need free }
-    ensures { marked_told (truth_of result) st store.new ≡ rested_by st store.old (plain.above_call (reduced_state st) order.now bnorm limit (narrowed_in st store.old)) }
-{
-    narrow_in(st.n, st.marks, free, store, small);
-    let t = measures::above::above_limit(reduced(st, free), small, order, bnorm, limit);
-    rest_in(st.n, st.marks, free, store);
-    t.answer
+impl FrozenProblem<'_> {
+    fn above_limit(&self, order: &[usize], bnorm: f64, limit: f64) -> Result<bool, Refusal>
+        ensures { reply_of result ≡ (plain.above_call (reduced_state self.now.st) order.now bnorm limit (narrowed_in self.now.st self.now.store.now)).reply }
+    {
+        let mut small = room320();
+        self.narrow(&mut small);
+        let need = self.need();
+        measures::above::above_limit(self.reduced(), &mut small[..need], order, bnorm, limit).answer
+    }
 }
 
 // Whether the gradient's measure is greater than a limit, over the free columns. It agrees with `max_a_t_b_scaled` wherever that is answered,
@@ -72,40 +67,31 @@ pub fn above_limit(
     order: &[usize],
     bnorm: f64,
     limit: f64,
-) -> TruthTold
-    ensures { marked_told (truth_of result.answer) result.state store.new ≡ marked_above st order.now bnorm limit store.old }
+) -> Told<bool, State>
+    ensures { marked_told (reply_of result.answer) result.state store.new ≡ marked_above st order.now bnorm limit store.old }
 {
     let marks = st.marks;
     if marks == 0 {
         let t = measures::above::above_limit(whole(st), store, order, bnorm, limit);
-        let answer = t.answer;
-        let state = t.state;
-        return TruthTold {
-            answer: answer,
-            state: marked(marks, state),
+        return Told {
+            answer: t.answer,
+            state: marked(marks, t.state),
         };
     }
-    let c = check_above(st, store.len(), order, bnorm, limit);
-    if c != 0 {
-        return TruthTold {
-            answer: Truth::Refused(c),
+    if let Err(no) = check_above(st, store.len(), order, bnorm, limit) {
+        return Told {
+            answer: Err(no),
             state: st,
         };
     }
-    let free = free_count(st.n, marks);
-    let need = store_need(free);
-    let mut small = room320();
-    let answer = above_frozen(
+    let n = st.n;
+    let free = free_count(n, marks);
+    let p = FrozenProblem {
         st,
         free,
-        store,
-        &order[..free],
-        bnorm,
-        limit,
-        &mut small[..need],
-    );
-    TruthTold {
-        answer: answer,
-        state: st,
-    }
+        store: &*store,
+    };
+    let answer = p.above_limit(&order[..free], bnorm, limit);
+    rest(n, store).unwrap();
+    Told { answer, state: st }
 }

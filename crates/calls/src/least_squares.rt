@@ -1,70 +1,60 @@
 // Document 01, modules 4 and 5, with 02, #108: the solves.
-ghost use Rattle.std.specs.Prelude.{◌≡◌, [], ◌∷◌, ◌++◌, ◌≤◌, min, length};
-ghost use Rattle.leaves.specs.Reply.{done_of};
+ghost use Rattle.std.specs.Prelude.{◌≡◌, [], ◌∷◌, ◌++◌, ◌≤◌, min, length, take};
+ghost use Rattle.leaves.specs.Reply.{reply_of, failed_by};
+ghost use Rattle.leaves.specs.Square.{zeros};
 ghost use Rattle.leaves.specs.Tests.{first_of};
 ghost use Rattle.factor.specs.State.{store_need};
 ghost use Rattle.factor.specs.Tests.{finite_test};
 ghost use Rattle.factor.specs.Solves as plain;
-ghost use Rattle.calls.specs.State.{whole as whole_state, without_frozen as reduced_state};
+ghost use Rattle.calls.specs.State.{whole as whole_state, without_frozen as reduced_state, cols};
 ghost use Rattle.calls.specs.Tests.{marked_solve_tests, free_test};
-ghost use Rattle.calls.specs.Outcome.{marked_ended, narrowed_in, emptied_by, widened_by};
+ghost use Rattle.calls.specs.Outcome.{marked_ended, narrowed_in, emptied_store, emptied_by, widened_store, widened_by};
 ghost use Rattle.calls.specs.Solves.{marked_zero, marked_damped};
-ghost use Rattle.calls.specs.inner.Reducible.{Reducible};
 
 use crate::check::{ordered, some_free};
-use crate::room::{empty_in, gather_in, narrow_in, room320, step_into, store_need};
-use crate::state::{State, Told, marked, reduced, whole, with_held};
+use crate::lent::FrozenProblem;
+use crate::room::{room320, step_into};
+use crate::state::{State, marked, whole, with_held};
 use crate::widen::widen_in;
+use factor::pivot_order::empty;
 use frozen::marks::free_count;
-use leaves::reply::Done;
-use leaves::sizes::{least, room16};
+use leaves::reply::{Refusal, Told};
+use leaves::sizes::{filled, least};
 use leaves::vector::all_finite;
 
-fn check_zero(st: State, store: usize, order: &[usize], out: usize) -> u8
-    ensures { result ≡ first_of (marked_solve_tests st store order.now out ++ (free_test st ∷ [])) }
+fn check_zero(st: State, store: usize, order: &[usize], out: usize) -> Result<(), Refusal>
+    ensures { failed_by result ≡ first_of (marked_solve_tests st store order.now out ++ (free_test st ∷ [])) }
 {
-    let c = ordered(st, store, out, order);
-    if c != 0 {
-        return c;
-    }
+    ordered(st, store, out, order)?;
     some_free(st)
 }
 
-// A zero solve with frozen columns, its tests passed. order: that of the reduced problem. small: a store for it. x: its step.
-fn zero_frozen(
-    st: State,
-    free: usize,
-    store: &mut [f64],
-    order: &[usize],
-    small: &mut [f64],
-    x: &mut [f64],
-    out: &mut [f64],
-) -> Told
-    requires reducible { Reducible st.n st.marks free store.old }
-    requires small_len { (length small.old ≡ store_need free) × (length x.old ≡ free) × (st.n ≤ length out.old) }
-    ensures { marked_ended (done_of result.answer) result.state store.new out.new ≡ emptied_by st store.old out.old (plain.zero_call (reduced_state st) order.now (narrowed_in st store.old) x.old) }
-{
-    let n = st.n;
-    let marks = st.marks;
-    narrow_in(n, marks, free, store, small);
-    let t = factor::least_squares::solve_with_zero_diagonal(reduced(st, free), small, order, x);
-    empty_in(n, marks, free, store);
-    let answer = t.answer;
-    let after = t.state;
-    let held = after.held;
-    let state = with_held(st, held);
-    match answer {
-        Done::Written => {
-            step_into(n, marks, x, &mut out[..n]);
-            Told {
-                answer: Done::Written,
-                state: state,
-            }
+impl FrozenProblem<'_> {
+    // A zero solve; the store is yet to be emptied. order: that of the reduced problem.
+    fn solve_with_zero_diagonal(&self, order: &[usize], out: &mut [f64]) -> Told<(), State>
+        requires { self.now.st.n ≤ length out.old }
+        ensures { marked_ended (reply_of result.answer) result.state (emptied_store self.now.st self.now.store.now) out.new ≡ emptied_by self.now.st self.now.store.now out.old (plain.zero_call (reduced_state self.now.st) order.now (narrowed_in self.now.st self.now.store.now) (zeros (cols self.now.st))) }
+    {
+        let st = self.st;
+        let n = st.n;
+        let mut small = room320();
+        self.narrow(&mut small);
+        let need = self.need();
+        let mut room = self.fresh();
+        let x = &mut room[..self.free];
+        let t = factor::least_squares::solve_with_zero_diagonal(
+            self.reduced(),
+            &mut small[..need],
+            order,
+            x,
+        );
+        if t.answer.is_ok() {
+            step_into(n, st.marks, x, &mut out[..n]);
         }
-        Done::Refused(k) => Told {
-            answer: Done::Refused(k),
-            state: state,
-        },
+        Told {
+            answer: t.answer,
+            state: with_held(st, t.state.held),
+        }
     }
 }
 
@@ -81,92 +71,85 @@ pub fn solve_with_zero_diagonal(
     store: &mut [f64],
     order: &[usize],
     out: &mut [f64],
-) -> Told
-    ensures { marked_ended (done_of result.answer) result.state store.new out.new ≡ marked_zero st order.now store.old out.old }
+) -> Told<(), State>
+    ensures { marked_ended (reply_of result.answer) result.state store.new out.new ≡ marked_zero st order.now store.old out.old }
 {
     let marks = st.marks;
     if marks == 0 {
         let t = factor::least_squares::solve_with_zero_diagonal(whole(st), store, order, out);
-        let answer = t.answer;
-        let state = t.state;
         return Told {
-            answer: answer,
-            state: marked(marks, state),
+            answer: t.answer,
+            state: marked(marks, t.state),
         };
     }
-    let c = check_zero(st, store.len(), order, out.len());
-    if c != 0 {
+    if let Err(no) = check_zero(st, store.len(), order, out.len()) {
         return Told {
-            answer: Done::Refused(c),
+            answer: Err(no),
             state: st,
         };
     }
-    let free = free_count(st.n, marks);
-    let need = store_need(free);
-    let mut small = room320();
-    let mut x = room16();
-    zero_frozen(
+    let n = st.n;
+    let free = free_count(n, marks);
+    let p = FrozenProblem {
         st,
         free,
-        store,
-        &order[..free],
-        &mut small[..need],
-        &mut x[..free],
-        out,
-    )
+        store: &*store,
+    };
+    let told = p.solve_with_zero_diagonal(&order[..free], out);
+    empty(n, store).unwrap();
+    told
 }
 
 // 6 for the diagonal comes after the tests of every solve, 9 last.
-fn check_damped(st: State, store: usize, order: &[usize], diag: &[f64], out: usize) -> u8
-    ensures { result ≡ first_of (marked_solve_tests st store order.now (min (length diag.now) out) ++ (finite_test (whole_state st) diag.now ∷ free_test st ∷ [])) }
+fn check_damped(
+    st: State,
+    store: usize,
+    order: &[usize],
+    diag: &[f64],
+    out: usize,
+) -> Result<(), Refusal>
+    ensures { failed_by result ≡ first_of (marked_solve_tests st store order.now (min (length diag.now) out) ++ (finite_test (whole_state st) diag.now ∷ free_test st ∷ [])) }
 {
-    let c = ordered(st, store, least(diag.len(), out), order);
-    if c != 0 {
-        return c;
-    }
+    ordered(st, store, least(diag.len(), out), order)?;
     let n = st.n;
     if !all_finite(&diag[..n]) {
-        return 6;
+        return Err(Refusal::NotFinite);
     }
     some_free(st)
 }
 
-// The same for a damped solve. ds: the reduced problem's diagonal.
-fn damped_frozen(
-    st: State,
-    free: usize,
-    store: &mut [f64],
-    order: &[usize],
-    ds: &[f64],
-    small: &mut [f64],
-    x: &mut [f64],
-    out: &mut [f64],
-) -> Told
-    requires reducible { Reducible st.n st.marks free store.old }
-    requires small_len { (length small.old ≡ store_need free) × (length x.old ≡ free) × (st.n ≤ length out.old) }
-    ensures { marked_ended (done_of result.answer) result.state store.new out.new ≡ widened_by st store.old out.old (plain.damped_call (reduced_state st) ds.now order.now (narrowed_in st store.old) x.old) }
-{
-    let n = st.n;
-    let marks = st.marks;
-    narrow_in(n, marks, free, store, small);
-    let t = factor::least_squares::solve_with_diagonal(reduced(st, free), small, order, ds, x);
-    widen_in(n, marks, free, small, store);
-    let answer = t.answer;
-    let after = t.state;
-    let held = after.held;
-    let state = with_held(st, held);
-    match answer {
-        Done::Written => {
-            step_into(n, marks, x, &mut out[..n]);
-            Told {
-                answer: Done::Written,
-                state: state,
-            }
+impl FrozenProblem<'_> {
+    // The same for a damped solve; the store is yet to be given L. ds: the reduced problem's diagonal. small: room for its store.
+    fn solve_with_diagonal(
+        &self,
+        order: &[usize],
+        ds: &[f64],
+        small: &mut [f64; 320],
+        out: &mut [f64],
+    ) -> Told<(), State>
+        requires { self.now.st.n ≤ length out.old }
+        ensures { marked_ended (reply_of result.answer) result.state (widened_store self.now.st (take (store_need self.now.free) small.new) self.now.store.now) out.new ≡ widened_by self.now.st self.now.store.now out.old (plain.damped_call (reduced_state self.now.st) ds.now order.now (narrowed_in self.now.st self.now.store.now) (zeros (cols self.now.st))) }
+    {
+        let st = self.st;
+        let n = st.n;
+        self.narrow(small);
+        let need = self.need();
+        let mut room = self.fresh();
+        let x = &mut room[..self.free];
+        let t = factor::least_squares::solve_with_diagonal(
+            self.reduced(),
+            &mut small[..need],
+            order,
+            ds,
+            x,
+        );
+        if t.answer.is_ok() {
+            step_into(n, st.marks, x, &mut out[..n]);
         }
-        Done::Refused(k) => Told {
-            answer: Done::Refused(k),
-            state: state,
-        },
+        Told {
+            answer: t.answer,
+            state: with_held(st, t.state.held),
+        }
     }
 }
 
@@ -183,40 +166,35 @@ pub fn solve_with_diagonal(
     order: &[usize],
     diag: &[f64],
     out: &mut [f64],
-) -> Told
-    ensures { marked_ended (done_of result.answer) result.state store.new out.new ≡ marked_damped st diag.now order.now store.old out.old }
+) -> Told<(), State>
+    ensures { marked_ended (reply_of result.answer) result.state store.new out.new ≡ marked_damped st diag.now order.now store.old out.old }
 {
     let marks = st.marks;
     if marks == 0 {
         let t = factor::least_squares::solve_with_diagonal(whole(st), store, order, diag, out);
-        let answer = t.answer;
-        let state = t.state;
         return Told {
-            answer: answer,
-            state: marked(marks, state),
+            answer: t.answer,
+            state: marked(marks, t.state),
         };
     }
-    let c = check_damped(st, store.len(), order, diag, out.len());
-    if c != 0 {
+    if let Err(no) = check_damped(st, store.len(), order, diag, out.len()) {
         return Told {
-            answer: Done::Refused(c),
+            answer: Err(no),
             state: st,
         };
     }
-    let free = free_count(st.n, marks);
-    let need = store_need(free);
-    let mut small = room320();
-    let mut ds = room16();
-    let mut x = room16();
-    gather_in(st.n, marks, diag, &mut ds[..free]);
-    damped_frozen(
+    let n = st.n;
+    let free = free_count(n, marks);
+    let p = FrozenProblem {
         st,
         free,
-        store,
-        &order[..free],
-        &ds[..free],
-        &mut small[..need],
-        &mut x[..free],
-        out,
-    )
+        store: &*store,
+    };
+    let need = p.need();
+    let mut small = room320();
+    let mut ds: [f64; 16] = filled(0.0);
+    p.gather(diag, &mut ds);
+    let told = p.solve_with_diagonal(&order[..free], &ds[..free], &mut small, out);
+    widen_in(n, marks, free, &small[..need], store);
+    told
 }

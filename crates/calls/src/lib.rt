@@ -6,6 +6,7 @@ pub mod above;
 pub mod check;
 pub mod cholesky;
 pub mod least_squares;
+mod lent;
 pub mod measure;
 pub mod pivoted_qr;
 mod room;

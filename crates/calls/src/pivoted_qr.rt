@@ -1,7 +1,7 @@
 // Document 01, modules 2 and 3, with 02, #108: factoring.
 ghost use Rattle.std.specs.Prelude.{◌≡◌, false, ◌++◌, ◌-◌, ◌*◌, ◌<◌, ◌≤◌, length, take, drop};
+ghost use Rattle.leaves.specs.Reply.{reply_of, failed_by};
 ghost use Rattle.leaves.specs.Loop.{count_from};
-ghost use Rattle.leaves.specs.Reply.{ranged_of};
 ghost use Rattle.leaves.specs.Square.{zeros};
 ghost use Rattle.leaves.specs.Tests.{outside as outside_of, first_of};
 ghost use Rattle.frozen.specs.Frozen.{marks_of, free_count, free_columns};
@@ -12,16 +12,17 @@ ghost use Rattle.calls.specs.Factoring.{marked_factored, marked_factor_tests, ma
 ghost use Rattle.calls.specs.inner.Factorable.{length_tests, Factorable, state_left, store_left};
 
 use crate::room::{room320, store_need};
-use crate::state::{FactorTold, State, empty};
+use crate::state::{State, empty};
 use factor::filled::factor_filled;
 use factor::state::Held;
 use frozen::columns::free_columns;
 use frozen::marks::{free_count, mark_past};
 use frozen::narrow::spread;
+use leaves::norm::Ranges;
 use leaves::pieces::{clear_long, copy_long};
-use leaves::reply::Ranged;
+use leaves::reply::{Refusal, Told};
 use leaves::sizes::outside;
-use leaves::vector::{all_finite, copy};
+use leaves::vector::all_finite;
 
 // Tests 2 and 3.
 fn check_lengths(
@@ -33,29 +34,33 @@ fn check_lengths(
     store: usize,
     order: usize,
     bench: usize,
-) -> u8
-    ensures { result ≡ first_of (length_tests m n marks jacobian residuals store order bench) }
+) -> Result<(), Refusal>
+    ensures { failed_by result ≡ first_of (length_tests m n marks jacobian residuals store order bench) }
 {
     if outside(m, n) {
-        return 2;
+        return Err(Refusal::Sizes);
     }
     if mark_past(n, marks) {
-        return 2;
+        return Err(Refusal::Sizes);
     }
     let mn = m * n;
     if jacobian < mn {
-        return 3;
+        return Err(Refusal::Length);
     }
     if residuals < m {
-        return 3;
+        return Err(Refusal::Length);
     }
     if store < n * n + 4 * n {
-        return 3;
+        return Err(Refusal::Length);
     }
     if order < n {
-        return 3;
+        return Err(Refusal::Length);
     }
-    if bench < mn + m { 3 } else { 0 }
+    if bench < mn + m {
+        Err(Refusal::Length)
+    } else {
+        Ok(())
+    }
 }
 
 // A frozen column's numbers are tested too; 9 comes last.
@@ -68,10 +73,10 @@ fn check_factor(
     store: usize,
     order: usize,
     bench: usize,
-) -> u8
-    ensures { result ≡ first_of (marked_factor_tests m n marks jacobian.now residuals.now store order bench) }
+) -> Result<(), Refusal>
+    ensures { failed_by result ≡ first_of (marked_factor_tests m n marks jacobian.now residuals.now store order bench) }
 {
-    let c = check_lengths(
+    check_lengths(
         m,
         n,
         marks,
@@ -80,18 +85,19 @@ fn check_factor(
         store,
         order,
         bench,
-    );
-    if c != 0 {
-        return c;
-    }
+    )?;
     let mn = m * n;
     if !all_finite(&jacobian[..mn]) {
-        return 6;
+        return Err(Refusal::NotFinite);
     }
     if !all_finite(&residuals[..m]) {
-        return 6;
+        return Err(Refusal::NotFinite);
     }
-    if free_count(n, marks) == 0 { 9 } else { 0 }
+    if free_count(n, marks) == 0 {
+        Err(Refusal::AllFrozen)
+    } else {
+        Ok(())
+    }
 }
 
 // The free columns, one after the other. With no mark they are all of them, and are copied at once.
@@ -101,9 +107,9 @@ fn gather_columns(m: usize, n: usize, marks: u16, jacobian: &[f64], bench: &mut 
     ensures { bench.new ≡ free_columns m (marks_of n marks) jacobian.now }
 {
     if marks == 0 {
-        copy_long(&jacobian[..m * n], bench);
+        copy_long(&jacobian[..m * n], bench).unwrap();
     } else {
-        free_columns(m, n, marks, jacobian, bench);
+        free_columns(m, n, marks, jacobian, bench).unwrap();
     }
 }
 
@@ -124,7 +130,7 @@ fn fill_bench(
     let p = m * free;
     let q = p + m;
     gather_columns(m, n, marks, jacobian, &mut bench[..p]);
-    copy(&residuals[..m], &mut bench[p..q]);
+    bench[p..q].copy_from_slice(&residuals[..m]);
 }
 
 // The order list's remaining places continue the count.
@@ -132,10 +138,8 @@ fn count_on(free: usize, order: &mut [usize])
     requires { free ≤ length order.old }
     ensures { order.new ≡ take free order.old ++ count_from (length order.old - free) free }
 {
-    let mut k = free;
-    while k < order.len() {
+    for k in free..order.len() {
         order[k] = k;
-        k += 1;
     }
 }
 
@@ -157,8 +161,8 @@ fn spread_out(n: usize, free: usize, store: &mut [f64])
 {
     let need = store_need(free);
     let mut small = room320();
-    copy(&store[..need], &mut small[..need]);
-    spread(n, free, &small[..need], store);
+    small[..need].copy_from_slice(&store[..need]);
+    spread(n, free, &small[..need], store).unwrap();
 }
 
 // Refused 8: the needed store +0.
@@ -171,35 +175,32 @@ fn wipe(n: usize, store: &mut [f64])
 }
 
 // The needed store by the answer, where columns are frozen.
-fn leave_store(n: usize, free: usize, answer: Ranged, store: &mut [f64])
+fn leave_store(n: usize, free: usize, answer: Result<Ranges, Refusal>, store: &mut [f64])
     requires { (0 < free) × (free ≤ n) × (n ≤ 16) × (store_need n ≤ length store.old) }
-    ensures { store.new ≡ written (store_left n free (ranged_of answer) store.old) store.old }
+    ensures { store.new ≡ written (store_left n free (reply_of answer) store.old) store.old }
 {
-    match answer {
-        Ranged::Seen(seen) => spread_out(n, free, store),
-        Ranged::Refused(k) => wipe(n, store),
+    if answer.is_ok() {
+        spread_out(n, free, store);
+    } else {
+        wipe(n, store);
     }
 }
 
 // The answer, and the state by it.
-fn told(m: usize, n: usize, marks: u16, answer: Ranged) -> FactorTold
-    ensures { (ranged_of result.answer ≡ ranged_of answer) × (result.state ≡ state_left m n marks (ranged_of answer)) }
+fn told(m: usize, n: usize, marks: u16, answer: Result<Ranges, Refusal>) -> Told<Ranges, State>
+    ensures { (reply_of result.answer ≡ reply_of answer) × (result.state ≡ state_left m n marks (reply_of answer)) }
 {
-    match answer {
-        Ranged::Seen(seen) => FactorTold {
-            answer: Ranged::Seen(seen),
-            state: State {
-                m: m,
-                n: n,
-                held: Held::Nothing,
-                marks: marks,
-            },
-        },
-        Ranged::Refused(k) => FactorTold {
-            answer: Ranged::Refused(k),
-            state: empty(),
-        },
-    }
+    let state = if answer.is_ok() {
+        State {
+            m,
+            n,
+            held: Held::Nothing,
+            marks,
+        }
+    } else {
+        empty()
+    };
+    Told { answer, state }
 }
 
 // Factors a Jacobian with column pivoting and transforms its residuals, without the frozen columns.
@@ -222,10 +223,10 @@ pub fn pivoted_qr(
     store: &mut [f64],
     order: &mut [usize],
     bench: &mut [f64],
-) -> FactorTold
-    ensures { marked_factored (ranged_of result.answer) result.state store.new order.new bench.new ≡ marked_factoring m n marks jacobian.now residuals.now store.old order.old bench.old }
+) -> Told<Ranges, State>
+    ensures { marked_factored (reply_of result.answer) result.state store.new order.new bench.new ≡ marked_factoring m n marks jacobian.now residuals.now store.old order.old bench.old }
 {
-    let c = check_factor(
+    if let Err(no) = check_factor(
         m,
         n,
         marks,
@@ -234,9 +235,8 @@ pub fn pivoted_qr(
         store.len(),
         order.len(),
         bench.len(),
-    );
-    if c != 0 {
-        return told(m, n, marks, Ranged::Refused(c));
+    ) {
+        return told(m, n, marks, Err(no));
     }
     let free = free_count(n, marks);
     // With no mark and with some the working is called at this one place, so that the compiler builds it in here.

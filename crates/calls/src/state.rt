@@ -1,13 +1,8 @@
-// 02, #108: the state with its marks, and what calls answer.
+// 02, #108: the state with its marks.
 ghost use Rattle.std.specs.Prelude.{◌≡◌};
-ghost use Rattle.calls.specs.State.{no_problem as empty_state, marked_held, marked as marked_state, cols, whole as whole_state, without_frozen as reduced_state};
+ghost use Rattle.calls.specs.State.{no_problem as empty_state, marked_held, marked as marked_state, whole as whole_state};
 
-use factor::answer::Truth;
 use factor::state::Held;
-use leaves::reply::{Done, Measured, Place, Ranged};
-use measures::gradient::Gradient;
-use measures::scaling::Scaling;
-use search::trust_region::Found;
 
 // marks: a bit for each column, column 0 the most significant of sixteen; set for a frozen column.
 #[derive(Clone, Copy)]
@@ -16,54 +11,6 @@ pub struct State {
     pub n: usize,
     pub held: Held,
     pub marks: u16,
-}
-
-#[derive(Clone, Copy)]
-pub struct FactorTold {
-    pub answer: Ranged,
-    pub state: State,
-}
-
-#[derive(Clone, Copy)]
-pub struct Told {
-    pub answer: Done,
-    pub state: State,
-}
-
-#[derive(Clone, Copy)]
-pub struct GradientTold {
-    pub answer: Gradient,
-    pub state: State,
-}
-
-#[derive(Clone, Copy)]
-pub struct MeasuredTold {
-    pub answer: Measured,
-    pub state: State,
-}
-
-#[derive(Clone, Copy)]
-pub struct PlaceTold {
-    pub answer: Place,
-    pub state: State,
-}
-
-#[derive(Clone, Copy)]
-pub struct TruthTold {
-    pub answer: Truth,
-    pub state: State,
-}
-
-#[derive(Clone, Copy)]
-pub struct ScalingTold {
-    pub answer: Scaling,
-    pub state: State,
-}
-
-#[derive(Clone, Copy)]
-pub struct SearchTold {
-    pub answer: Found,
-    pub state: State,
 }
 
 pub(crate) fn empty() -> State
@@ -81,48 +28,28 @@ pub(crate) fn empty() -> State
 pub(crate) fn with_held(st: State, held: Held) -> State
     ensures { result ≡ marked_held st held }
 {
-    State {
-        m: st.m,
-        n: st.n,
-        held: held,
-        marks: st.marks,
-    }
+    State { held, ..st }
 }
 
 // A state that knows no marks, and marks.
 pub(crate) fn marked(marks: u16, st: factor::state::State) -> State
     ensures { result ≡ marked_state marks st }
 {
-    let held = st.held;
     State {
         m: st.m,
         n: st.n,
-        held: held,
-        marks: marks,
+        held: st.held,
+        marks,
     }
 }
 
-// The problem with all its columns.
+// The problem with all its columns. By name and no `From`: a problem has two states without marks, this and `reduced`.
 pub(crate) fn whole(st: State) -> factor::state::State
     ensures { result ≡ whole_state st }
 {
-    let held = st.held;
     factor::state::State {
         m: st.m,
         n: st.n,
-        held: held,
-    }
-}
-
-// The problem without the frozen columns.
-pub(crate) fn reduced(st: State, free: usize) -> factor::state::State
-    requires { free ≡ cols st }
-    ensures { result ≡ reduced_state st }
-{
-    let held = st.held;
-    factor::state::State {
-        m: st.m,
-        n: free,
-        held: held,
+        held: st.held,
     }
 }

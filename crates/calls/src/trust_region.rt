@@ -1,22 +1,25 @@
 // Document 01, module 7, with 02, #108: the search for lambda and step (`trust_region.rs`).
 ghost use Rattle.std.specs.Prelude.{◌≡◌, ◌≤◌, length};
+ghost use Rattle.leaves.specs.Reply.{reply_of, failed_by};
+ghost use Rattle.leaves.specs.Square.{zeros};
 ghost use Rattle.leaves.specs.Tests.{first_of};
-ghost use Rattle.factor.specs.State.{store_need};
-ghost use Rattle.search.specs.Answers.{found_of};
 ghost use Rattle.search.specs.Search as plain;
-ghost use Rattle.calls.specs.State.{without_frozen as reduced_state};
-ghost use Rattle.calls.specs.Outcome.{marked_ended, narrowed_in, emptied_by};
+ghost use Rattle.calls.specs.State.{without_frozen as reduced_state, cols};
+ghost use Rattle.calls.specs.Outcome.{marked_ended, narrowed_in, emptied_store, emptied_by};
 ghost use Rattle.calls.specs.Search.{marked_search_tests, marked_search};
-ghost use Rattle.calls.specs.inner.Reducible.{Reducible};
 
 use crate::check::{ordered, some_free};
-use crate::room::{empty_in, gather_in, narrow_in, room320, step_into, store_need};
-use crate::state::{SearchTold, State, marked, reduced, whole, with_held};
+use crate::lent::FrozenProblem;
+use crate::room::{room320, step_into};
+use crate::state::{State, marked, whole, with_held};
+use factor::pivot_order::empty;
 use frozen::marks::free_count;
+use leaves::norm::Ranges;
 use leaves::number::is_finite;
-use leaves::sizes::{least, room16};
+use leaves::reply::{Refusal, Told};
+use leaves::sizes::{filled, least};
 use leaves::vector::{all_finite, none_zero};
-use search::trust_region::Found;
+use search::LMParameter;
 
 fn check_search(
     st: State,
@@ -26,81 +29,68 @@ fn check_search(
     radius: f64,
     lambda: f64,
     out: usize,
-) -> u8
-    ensures { result ≡ first_of (marked_search_tests st store order.now diag.now radius lambda out) }
+) -> Result<(), Refusal>
+    ensures { failed_by result ≡ first_of (marked_search_tests st store order.now diag.now radius lambda out) }
 {
-    let c = ordered(st, store, least(diag.len(), out), order);
-    if c != 0 {
-        return c;
-    }
+    ordered(st, store, least(diag.len(), out), order)?;
     let n = st.n;
     if !all_finite(&diag[..n]) {
-        return 6;
+        return Err(Refusal::NotFinite);
     }
     if !is_finite(radius) {
-        return 6;
+        return Err(Refusal::NotFinite);
     }
     if !is_finite(lambda) {
-        return 6;
+        return Err(Refusal::NotFinite);
     }
     if radius <= 0.0 {
-        return 7;
+        return Err(Refusal::Range);
     }
     if lambda < 0.0 {
-        return 7;
+        return Err(Refusal::Range);
     }
     if !none_zero(&diag[..n]) {
-        return 7;
+        return Err(Refusal::Range);
     }
     some_free(st)
 }
 
-// A search with frozen columns, its tests passed. order, ds: those of the reduced problem. small: a store for it. x: its step.
-fn search_frozen(
-    st: State,
-    free: usize,
-    store: &mut [f64],
-    order: &[usize],
-    ds: &[f64],
-    radius: f64,
-    lambda: f64,
-    small: &mut [f64],
-    x: &mut [f64],
-    out: &mut [f64],
-) -> SearchTold
-    requires reducible { Reducible st.n st.marks free store.old }
-    requires small_len { (length small.old ≡ store_need free) × (length x.old ≡ free) × (st.n ≤ length out.old) }
-    ensures { marked_ended (found_of result.answer) result.state store.new out.new ≡ emptied_by st store.old out.old (plain.search_call (reduced_state st) order.now ds.now radius lambda (narrowed_in st store.old) x.old) }
-{
-    let n = st.n;
-    let marks = st.marks;
-    narrow_in(n, marks, free, store, small);
-    let t = search::trust_region::determine_lambda_and_parameter_update(
-        reduced(st, free),
-        small,
-        order,
-        ds,
-        radius,
-        lambda,
-        x,
-    );
-    empty_in(n, marks, free, store);
-    let answer = t.answer;
-    let after = t.state;
-    let held = after.held;
-    let state = with_held(st, held);
-    match answer {
-        Found::Answer(a, seen) => {
-            step_into(n, marks, x, &mut out[..n]);
-            SearchTold {
-                answer: Found::Answer(a, seen),
-                state: state,
-            }
+impl FrozenProblem<'_> {
+    // A search; the store is yet to be emptied. order, ds: those of the reduced problem.
+    fn determine_lambda_and_parameter_update(
+        &self,
+        order: &[usize],
+        ds: &[f64],
+        radius: f64,
+        lambda: f64,
+        out: &mut [f64],
+    ) -> Told<(LMParameter, Ranges), State>
+        requires { self.now.st.n ≤ length out.old }
+        ensures { marked_ended (reply_of result.answer) result.state (emptied_store self.now.st self.now.store.now) out.new ≡ emptied_by self.now.st self.now.store.now out.old (plain.search_call (reduced_state self.now.st) order.now ds.now radius lambda (narrowed_in self.now.st self.now.store.now) (zeros (cols self.now.st))) }
+    {
+        let st = self.st;
+        let n = st.n;
+        let mut small = room320();
+        self.narrow(&mut small);
+        let need = self.need();
+        let mut room = self.fresh();
+        let x = &mut room[..self.free];
+        let t = search::trust_region::determine_lambda_and_parameter_update(
+            self.reduced(),
+            &mut small[..need],
+            order,
+            ds,
+            radius,
+            lambda,
+            x,
+        );
+        if t.answer.is_ok() {
+            step_into(n, st.marks, x, &mut out[..n]);
         }
-        Found::Refused(k) => SearchTold {
-            answer: Found::Refused(k),
-            state: state,
-        },
+        Told {
+            answer: t.answer,
+            state: with_held(st, t.state.held),
+        }
     }
 }
 
@@ -123,8 +113,8 @@ pub fn determine_lambda_and_parameter_update(
     radius: f64,
     lambda: f64,
     out: &mut [f64],
-) -> SearchTold
-    ensures { marked_ended (found_of result.answer) result.state store.new out.new ≡ marked_search st order.now diag.now radius lambda store.old out.old }
+) -> Told<(LMParameter, Ranges), State>
+    ensures { marked_ended (reply_of result.answer) result.state store.new out.new ≡ marked_search st order.now diag.now radius lambda store.old out.old }
 {
     let marks = st.marks;
     if marks == 0 {
@@ -137,36 +127,33 @@ pub fn determine_lambda_and_parameter_update(
             lambda,
             out,
         );
-        let answer = t.answer;
-        let state = t.state;
-        return SearchTold {
-            answer: answer,
-            state: marked(marks, state),
+        return Told {
+            answer: t.answer,
+            state: marked(marks, t.state),
         };
     }
-    let c = check_search(st, store.len(), order, diag, radius, lambda, out.len());
-    if c != 0 {
-        return SearchTold {
-            answer: Found::Refused(c),
+    if let Err(no) = check_search(st, store.len(), order, diag, radius, lambda, out.len()) {
+        return Told {
+            answer: Err(no),
             state: st,
         };
     }
-    let free = free_count(st.n, marks);
-    let need = store_need(free);
-    let mut small = room320();
-    let mut ds = room16();
-    let mut x = room16();
-    gather_in(st.n, marks, diag, &mut ds[..free]);
-    search_frozen(
+    let n = st.n;
+    let free = free_count(n, marks);
+    let p = FrozenProblem {
         st,
         free,
-        store,
+        store: &*store,
+    };
+    let mut ds: [f64; 16] = filled(0.0);
+    p.gather(diag, &mut ds);
+    let told = p.determine_lambda_and_parameter_update(
         &order[..free],
         &ds[..free],
         radius,
         lambda,
-        &mut small[..need],
-        &mut x[..free],
         out,
-    )
+    );
+    empty(n, store).unwrap();
+    told
 }

@@ -1,76 +1,76 @@
 // Document 01, module 6, with 02, #108: the scaling. 'First scaling gives a frozen column 1, later scaling leaves its entry'.
 ghost use Rattle.std.specs.Prelude.{◌≡◌, [], ◌∷◌, ◌++◌, ◌≤◌, length};
+ghost use Rattle.leaves.specs.Reply.{failed_by};
 ghost use Rattle.leaves.specs.Tests.{first_of};
-ghost use Rattle.frozen.specs.Frozen.{marks_of, free_count, merged};
-ghost use Rattle.factor.specs.State.{store_need};
+ghost use Rattle.frozen.specs.Frozen.{marks_of, free_count, free_of, merged};
 ghost use Rattle.factor.specs.Tests.{finite_test};
 ghost use Rattle.measures.specs.Answers.{scaling_of};
 ghost use Rattle.measures.specs.Rescale as plain;
-ghost use Rattle.calls.specs.State.{whole as whole_state, without_frozen as reduced_state};
+ghost use Rattle.calls.specs.State.{whole as whole_state, without_frozen as reduced_state, marks_in};
 ghost use Rattle.calls.specs.Tests.{marked_room_tests, free_test};
-ghost use Rattle.calls.specs.Outcome.{marked_ended, narrowed_in};
+ghost use Rattle.calls.specs.Outcome.{marked_ended, narrowed_in, rested_store};
 ghost use Rattle.calls.specs.Rescale.{marked_first_tests, marked_scaling_tests, frozen_entries, scaled_by, marked_scaling};
-ghost use Rattle.calls.specs.inner.Reducible.{Reducible};
 
 use crate::check::{room, some_free};
-use crate::room::{gather_in, narrow_in, rest_in, room320, store_need};
-use crate::state::{ScalingTold, State, marked, reduced, whole};
+use crate::lent::FrozenProblem;
+use crate::room::room320;
+use crate::state::{State, marked, whole};
+use factor::parts::rest;
 use frozen::marks::free_count;
 use frozen::moved::{gather_free, merge_into};
 use leaves::number::is_finite;
-use leaves::sizes::{least, room16};
+use leaves::reply::{Refusal, Told};
+use leaves::sizes::{filled, least};
 use leaves::vector::{all_finite, fill};
 use measures::scaling::{Mode, Scaling};
 
 // The first call reads the parameters and the step bound.
-fn check_first(st: State, store: usize, diag: &[f64], x: &[f64], bound: f64) -> u8
-    ensures { result ≡ first_of (marked_first_tests st store diag.now x.now bound) }
+fn check_first(st: State, store: usize, diag: &[f64], x: &[f64], bound: f64) -> Result<(), Refusal>
+    ensures { failed_by result ≡ first_of (marked_first_tests st store diag.now x.now bound) }
 {
-    let c = room(st, store, least(diag.len(), x.len()));
-    if c != 0 {
-        return c;
-    }
+    room(st, store, least(diag.len(), x.len()))?;
     let n = st.n;
     if !all_finite(&x[..n]) {
-        return 6;
+        return Err(Refusal::NotFinite);
     }
     if !is_finite(bound) {
-        return 6;
+        return Err(Refusal::NotFinite);
     }
     if bound <= 0.0 {
-        return 7;
+        return Err(Refusal::Range);
     }
     some_free(st)
 }
 
 // A later scaled call reads the lent scaling.
-fn check_later(st: State, store: usize, diag: &[f64]) -> u8
-    ensures { result ≡ first_of (marked_room_tests st store (length diag.now) ++ (finite_test (whole_state st) diag.now ∷ free_test st ∷ [])) }
+fn check_later(st: State, store: usize, diag: &[f64]) -> Result<(), Refusal>
+    ensures { failed_by result ≡ first_of (marked_room_tests st store (length diag.now) ++ (finite_test (whole_state st) diag.now ∷ free_test st ∷ [])) }
 {
-    let c = room(st, store, diag.len());
-    if c != 0 {
-        return c;
-    }
+    room(st, store, diag.len())?;
     let n = st.n;
     if !all_finite(&diag[..n]) {
-        return 6;
+        return Err(Refusal::NotFinite);
     }
     some_free(st)
 }
 
 // A later unscaled call reads none.
-fn check_unread(st: State, store: usize, diag: usize) -> u8
-    ensures { result ≡ first_of (marked_room_tests st store diag ++ (free_test st ∷ [])) }
+fn check_unread(st: State, store: usize, diag: usize) -> Result<(), Refusal>
+    ensures { failed_by result ≡ first_of (marked_room_tests st store diag ++ (free_test st ∷ [])) }
 {
-    let c = room(st, store, diag);
-    if c != 0 {
-        return c;
-    }
+    room(st, store, diag)?;
     some_free(st)
 }
 
-fn check_scaling(st: State, mode: Mode, store: usize, diag: &[f64], x: &[f64], bound: f64) -> u8
-    ensures { result ≡ first_of (marked_scaling_tests st mode store diag.now x.now bound) }
+fn check_scaling(
+    st: State,
+    mode: Mode,
+    store: usize,
+    diag: &[f64],
+    x: &[f64],
+    bound: f64,
+) -> Result<(), Refusal>
+    ensures { failed_by result ≡ first_of (marked_scaling_tests st mode store diag.now x.now bound) }
 {
     match mode {
         Mode::FirstScaled => check_first(st, store, diag, x, bound),
@@ -85,11 +85,8 @@ fn fill_frozen(mode: Mode, n: usize, diag: &mut [f64])
     requires { n ≤ length diag.old }
     ensures { diag.new ≡ frozen_entries mode n diag.old }
 {
-    match mode {
-        Mode::FirstScaled => fill(1.0, &mut diag[..n]),
-        Mode::FirstUnscaled => {}
-        Mode::LaterScaled => {}
-        Mode::LaterUnscaled => {}
+    if let Mode::FirstScaled = mode {
+        fill(1.0, &mut diag[..n]);
     }
 }
 
@@ -98,41 +95,38 @@ fn scale_into(mode: Mode, n: usize, marks: u16, d: &[f64], diag: &mut [f64])
     ensures { diag.new ≡ merged (marks_of n marks) (frozen_entries mode n diag.old) d.now }
 {
     fill_frozen(mode, n, diag);
-    merge_into(n, marks, d, diag);
+    merge_into(n, marks, d, diag).unwrap();
 }
 
-// A scaling with frozen columns, its tests passed. d, xs: the reduced problem's scaling and parameters. small: a store for it.
-fn scaling_frozen(
-    st: State,
-    free: usize,
-    store: &mut [f64],
-    mode: Mode,
-    d: &mut [f64],
-    xs: &[f64],
-    bound: f64,
-    small: &mut [f64],
-    diag: &mut [f64],
-) -> Scaling
-    requires reducible { Reducible st.n st.marks free store.old }
-    requires small_len { (length small.old ≡ store_need free) × (length d.old ≡ free) × (st.n ≤ length diag.old) }
-    ensures { marked_ended (scaling_of result) st store.new diag.new ≡ scaled_by st mode diag.old store.old (plain.scaling_call (reduced_state st) mode d.old xs.now bound (narrowed_in st store.old)) }
-{
-    let n = st.n;
-    let marks = st.marks;
-    narrow_in(n, marks, free, store, small);
-    let t = measures::update_diag::update_diag(reduced(st, free), small, mode, d, xs, bound);
-    rest_in(n, marks, free, store);
-    let answer = t.answer;
-    match answer {
-        Scaling::First(start, seen) => {
-            scale_into(mode, n, marks, d, diag);
-            Scaling::First(start, seen)
-        }
-        Scaling::Later(seen) => {
-            scale_into(mode, n, marks, d, diag);
-            Scaling::Later(seen)
-        }
-        Scaling::Refused(k) => Scaling::Refused(k),
+impl FrozenProblem<'_> {
+    // A scaling; work is yet to be cleared. xs: the reduced problem's parameters.
+    fn update_diag(
+        &self,
+        mode: Mode,
+        xs: &[f64],
+        bound: f64,
+        diag: &mut [f64],
+    ) -> Result<Scaling, Refusal>
+        requires { self.now.st.n ≤ length diag.old }
+        ensures { marked_ended (scaling_of result) self.now.st (rested_store self.now.st self.now.store.now) diag.new ≡ scaled_by self.now.st mode diag.old self.now.store.now (plain.scaling_call (reduced_state self.now.st) mode (free_of (marks_in self.now.st) diag.old) xs.now bound (narrowed_in self.now.st self.now.store.now)) }
+    {
+        let mut small = room320();
+        self.narrow(&mut small);
+        let need = self.need();
+        let mut room: [f64; 16] = filled(0.0);
+        self.gather(diag, &mut room);
+        let d = &mut room[..self.free];
+        let t = measures::update_diag::update_diag(
+            self.reduced(),
+            &mut small[..need],
+            mode,
+            d,
+            xs,
+            bound,
+        );
+        let scaling = t.answer?;
+        scale_into(mode, self.st.n, self.st.marks, d, diag);
+        Ok(scaling)
     }
 }
 
@@ -153,48 +147,34 @@ pub fn update_diag(
     diag: &mut [f64],
     x: &[f64],
     bound: f64,
-) -> ScalingTold
+) -> Told<Scaling, State>
     ensures { marked_ended (scaling_of result.answer) result.state store.new diag.new ≡ marked_scaling st mode diag.old x.now bound store.old }
 {
     let marks = st.marks;
     if marks == 0 {
         let t = measures::update_diag::update_diag(whole(st), store, mode, diag, x, bound);
-        let answer = t.answer;
-        let state = t.state;
-        return ScalingTold {
-            answer: answer,
-            state: marked(marks, state),
+        return Told {
+            answer: t.answer,
+            state: marked(marks, t.state),
         };
     }
-    let c = check_scaling(st, mode, store.len(), diag, x, bound);
-    if c != 0 {
-        return ScalingTold {
-            answer: Scaling::Refused(c),
+    if let Err(no) = check_scaling(st, mode, store.len(), diag, x, bound) {
+        return Told {
+            answer: Err(no),
             state: st,
         };
     }
     let n = st.n;
     let free = free_count(n, marks);
-    let need = store_need(free);
-    let mut small = room320();
-    let mut d = room16();
-    let mut xs = room16();
-    gather_in(n, marks, diag, &mut d[..free]);
-    // Refused where the parameters are short, which a later call does not read.
-    gather_free(n, marks, x, &mut xs[..free]);
-    let answer = scaling_frozen(
+    let p = FrozenProblem {
         st,
         free,
-        store,
-        mode,
-        &mut d[..free],
-        &xs[..free],
-        bound,
-        &mut small[..need],
-        diag,
-    );
-    ScalingTold {
-        answer: answer,
-        state: st,
-    }
+        store: &*store,
+    };
+    let mut xs: [f64; 16] = filled(0.0);
+    // Refused where the parameters are short, which a later call does not read.
+    let _ = gather_free(n, marks, x, &mut xs[..free]);
+    let answer = p.update_diag(mode, &xs[..free], bound, diag);
+    rest(n, store).unwrap();
+    Told { answer, state: st }
 }

@@ -15,6 +15,8 @@ use borrow.Fn.Kinds.{ended_of}
 use lib.Dec.{T}
 use lib.ListN.{length, take}
 use lib.Ieee.{Float, binary64, fits, sub, lt, le}
+use Rattle.leaves.specs.declared.reply.Told.{Told}
+use Rattle.search.specs.declared.LMParameter.{LMParameter}
 use Rattle.leaves.specs.Reply.{answered, refused}
 use Rattle.leaves.specs.Number.{plus_zero, dwarf}
 use Rattle.leaves.specs.Root.{root_s}
@@ -34,7 +36,6 @@ use Rattle.search.specs.Ending.{ending, RuledFrom}
 use Rattle.search.specs.Enorm.{minpack_enorm}
 use Rattle.search.specs.Search.{Flagged, problem_of, search_call}
 use Rattle.demands.specs.History.{Call, search, found, number_of, perform, is_solve, settling, left_as}
-use Rattle.search.specs.declared.trust_region.SearchTold.{SearchTold}
 use Rattle.search.specs.contracts.trust_region.determine_lambda_and_parameter_update.{signature}
 use Rattle.search.proofs.trust_region.determine_lambda_and_parameter_update.Reads as code
 use Rattle.search.proofs.trust_region.determine_lambda_and_parameter_update.Kinds as kinds
@@ -53,7 +54,7 @@ use Rattle.search.proofs.AgainstEnorm.{norm_is_enorm}
 use Rattle.demands.proofs.AsFresh.{as_fresh, any_history, never_changed, after_refused}
 use Rattle.search.proofs.Rules.{rules_hold}
 use Rattle.demands.proofs.SearchAnswers as told
-use Rattle.search.specs.Answers.{found_of}
+use Rattle.leaves.specs.Reply.{reply_of}
 use Rattle.leaves.specs.Refusing.{NoneHold, RefusedBy}
 use Rattle.leaves.specs.IsRoot.{IsRoot}
 use Rattle.search.specs.Against.{lent_of, NoNan}
@@ -187,8 +188,8 @@ demand_1_sheet_lines = sheet_lines
 -- The definitions evaluate; the runs against that Rust are those of `oracle/`. The code gives what they give: of the search, whatever meets its
 -- contract; for the other calls and for factoring see `proofs/Ties.antt`. No theorem below is excused by the list: each says itself for which inputs it is.
 -- Beside the gradient stands the question of 02, #105: `proofs/AboveDemands.antt`.
-pub demand_2_contract : (κs : Lfts 4) (a : ArgsD signature κs) (r : SearchTold) (s : AtExit (ended_of 4 kinds.ps kinds.r) κs) → code.Post κs a r s
-    → left_as (found (found_of r.answer)) r.state s.1.0.now s.1.1.1.1.1.1.0.now
+pub demand_2_contract : (κs : Lfts 4) (a : ArgsD signature κs) (r : Told (LMParameter × Ranges) State) (s : AtExit (ended_of 4 kinds.ps kinds.r) κs) → code.Post κs a r s
+    → left_as (found (reply_of r.answer)) r.state s.1.0.now s.1.1.1.1.1.1.0.now
     ≡ perform (search a.1.1.1.0.now a.1.1.1.1.0 a.1.1.1.1.1.0 a.1.1.1.1.1.1.0.now) a.0 a.1.1.0.now a.1.0.now
 demand_2_contract = determine_lambda_and_parameter_update_is
 

@@ -10,7 +10,9 @@ use lib.ListN.{length}
 use lib.Seq.{take_all}
 use lib.Ieee.{Float}
 use borrow.Author.Tests.{le-ltb, ltb-false, eqb-true, eqb-false, eq-eqb, ne_eqb, not-false}
-use Rattle.leaves.specs.Reply.{Reply, answered, refused}
+use Rattle.leaves.specs.Reply.{Reply, answered, refused, refusal_number}
+use Rattle.leaves.specs.declared.reply.Refusal.{Refusal}
+use Rattle.leaves.proofs.Replies.{refusal_number-some}
 use Rattle.leaves.specs.Tests.{first_of, outside}
 use Rattle.leaves.specs.Square.{uppers_of, belows_of, joined}
 use Rattle.leaves.proofs.Folds.{nonzero}
@@ -18,6 +20,7 @@ use Rattle.leaves.proofs.Joined.{Tall, joined-columns, uppers-joined, belows_joi
 use Rattle.leaves.proofs.Refusals.{passed_iff, call-refused, call-worked}
 use Rattle.leaves.proofs.Squares.{uppers_of-length, upper_long}
 use Rattle.eliminate.specs.Eliminate.{damping, heads, tails}
+use Rattle.eliminate.specs.declared.elimination.Elimination.{Elimination}
 use Rattle.eliminate.specs.Eliminated.{Eliminated, eliminated_as, eliminate_tests, eliminate_call}
 use Rattle.eliminate.specs.inner.Edges.{Eliminates}
 use Rattle.eliminate.proofs.Settling.{tails-length}
@@ -50,9 +53,9 @@ pub record Fits (n square ds rhs ldiag : ℕ) : Type 0 where
   pub right : rhs ≡ n
   pub diagonal : ldiag ≡ n
 
-pub fitting : (n square ds rhs ldiag : ℕ) {c : ℕ} → c ≡ first_of (eliminate_tests n square ds rhs ldiag) → c ≡ 0 → Fits n square ds rhs ldiag
-fitting n square ds rhs ldiag e z =
-    let h = (passed_iff (eliminate_tests n square ds rhs ldiag) refl).0 (sym e ∙ z) in
+pub fitting : (n square ds rhs ldiag : ℕ) → 0 ≡ first_of (eliminate_tests n square ds rhs ldiag) → Fits n square ds rhs ldiag
+fitting n square ds rhs ldiag e =
+    let h = (passed_iff (eliminate_tests n square ds rhs ldiag) refl).0 (sym e) in
     let a = (and-eq-true_iff (eqb square (n * n) && eqb ds n && eqb rhs n) (eqb ldiag n)).0 (not-false _ h.1.0) in
     let b = (and-eq-true_iff (eqb square (n * n) && eqb ds n) (eqb rhs n)).0 a.0 in
     let c = (and-eq-true_iff (eqb square (n * n)) (eqb ds n)).0 b.0 in
@@ -88,9 +91,9 @@ module _ (n : ℕ) (ds s bs l : List Float) where
   abbrev rows : List (List Float)
   rows = (damping ds (uppers_of n s) bs).0
 
-  pub diag_refused : (c : ℕ) → c ≡ tests → (c ≡ 0 → ⊥) → eliminated_as (refused c) s bs l ≡ eliminate_call n ds s bs l
+  pub diag_refused : (r : Refusal) → refusal_number r ≡ tests → eliminated_as (refused (refusal_number r)) s bs l ≡ eliminate_call n ds s bs l
   unfolding eliminate_call
-  diag_refused c e h = call-refused _ (λ k. eliminated_as (refused k) s bs l) _ c (sym e) (ne_eqb c 0 h)
+  diag_refused r e = call-refused _ (λ k. eliminated_as (refused k) s bs l) _ (refusal_number r) (sym e) (ne_eqb (refusal_number r) 0 (refusal_number-some r))
 
   worked : tests ≡ 0 → eliminated_as (answered tt) (joined (uppers_of n s) (tails rows)) (damping ds (uppers_of n s) bs).1 (heads rows) ≡ eliminate_call n ds s bs l
   unfolding eliminate_call
@@ -101,9 +104,10 @@ module _ (n : ℕ) (ds s bs l : List Float) where
   laid s' bs' l' w e =
       sym (take_all (n * n) s' (omega arith)) ∙ sym (joined-columns n n 0 s') ∙ rw (e.upper, e.below)
 
-  pub diag_worked : (c : ℕ) (s' bs' l' : List Float) → c ≡ tests → c ≡ 0 → length s' ≡ n * n → Eliminates n ds s s' bs bs' l'
-      → eliminated_as (answered tt) s' bs' l' ≡ eliminate_call n ds s bs l
-  diag_worked c s' bs' l' t z w e = rw (laid s' bs' l' w e, e.diagonal, e.right) (worked (sym t ∙ z))
+  -- of what stands behind the elimination's slices
+  pub diag_worked : (r : Elimination) (l' : List Float) → 0 ≡ tests → r.n ≡ n → Eliminates n ds s r.upper_r.now bs r.rhs.now l'
+      → {s' bs' : List Float} → s' ≡ r.upper_r.now → bs' ≡ r.rhs.now → eliminated_as (answered tt) s' bs' l' ≡ eliminate_call n ds s bs l
+  diag_worked r l' t w e a b = rw (a, b, laid r.upper_r.now r.rhs.now l' (rw w at r.square.whole) e, e.diagonal, e.right) (worked (sym t))
 
   -- ---- and read again: R and L, each of its shape
   tall : Square n s → Tall n 0 (uppers_of n s) (tails rows)

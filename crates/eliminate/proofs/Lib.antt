@@ -1,4 +1,5 @@
 -- Laws that belong to no one function.
+pub mod Keeping
 pub mod Triangular
 pub mod Rotations
 pub mod Settling

@@ -1,15 +1,16 @@
 // Document 01, module 5, elimination in place. R is mirrored, so that column k holds row k of R from its diagonal on; each entry of the
 // diagonal begins a new row, which is rotated into these rows one after the other. What is left there is Lᵀ by rows, L by columns. The
 // mirror is the Rust's; rotations from R's rows would need none. A row and the new row are lent from place k on, as is quickest.
-ghost use Rattle.std.specs.Prelude.{◌≡◌, ◌+◌, ◌*◌, ◌-◌, ◌<◌, ◌≤◌, length, drop};
+ghost use Rattle.std.specs.Prelude.{◌≡◌, ◌+◌, ◌*◌, ◌-◌, ◌<◌, ◌≤◌, length, take, drop};
 ghost use Rattle.leaves.specs.Number.{plus_zero};
 ghost use Rattle.eliminate.specs.Eliminate.{lesser, givens, turned_all, left_all, started, eliminated, heads};
 ghost use Rattle.eliminate.specs.inner.Edges.{edges_of, up_to, ahead, TurnsPlace, Ahead, Turns, Ends, MirrorsColumn, Mirrors, Settles, Eliminates};
-ghost use Rattle.leaves.specs.inner.Squares.{Square};
+ghost use Rattle.eliminate.specs.inner.Kept.{Kept};
 
+use crate::elimination::Elimination;
 use leaves::number::{abs, abs_below};
 use leaves::root::sqrt;
-use leaves::sizes::room16;
+use leaves::sizes::filled;
 
 #[derive(Clone, Copy)]
 pub struct Rotation {
@@ -51,13 +52,11 @@ fn turn_rest(col: &mut [f64], l: &mut [f64], g: Rotation)
 {
     let sin = g.sin;
     let cos = g.cos;
-    let mut i = 0;
-    while i < col.len() {
+    for i in 0..col.len() {
         let x = col[i];
         let y = l[i];
         l[i] = -sin * x + cos * y;
         col[i] = cos * x + sin * y;
-        i += 1;
     }
 }
 
@@ -78,161 +77,126 @@ fn turn_place(col: &mut [f64], l: &mut [f64], b: f64, rest: f64) -> Pair
     }
 }
 
-// Where place i of column j stands.
-fn cell_at(n: usize, j: usize, i: usize) -> usize
-    requires n_bound { n ≤ 16 }
-    requires j_lt_n { j < n }
-    requires i_lt_n { i < n }
-    ensures value { result ≡ j * n + i }
-    ensures i_bound { result + (n - i) ≤ n * n }
-{
-    j * n + i
-}
-
-// The new row l, whose right side is q, is rotated into row k of the square; where its entry is zero the row is skipped.
-fn rotate_place(
-    square: &mut [f64],
-    n: usize,
-    k: usize,
-    l: &mut [f64],
-    rhs: &mut [f64],
-    q: f64,
-) -> f64
-    requires square { Square n square.old }
-    requires k_lt_n { k < n }
-    requires l_len { length l.old ≡ n }
-    requires rhs_len { length rhs.old ≡ n }
-    ensures { Ahead n square.old square.new (ahead n k square.old rhs.old l.old q) (ahead n (k + 1) square.new rhs.new l.new result) }
-{
-    if l[k] == 0.0 {
-        return q;
+impl Elimination<'_> {
+    // Where place i of column j stands.
+    fn cell_at(&self, j: usize, i: usize) -> usize
+        requires { (j < self.now.n) × (i < self.now.n) }
+        ensures value { result ≡ j * self.now.n + i }
+        ensures i_bound { result + (self.now.n - i) ≤ self.now.n * self.now.n }
+    {
+        j * self.n + i
     }
-    let b = rhs[k];
-    let from = cell_at(n, k, k);
-    let to = from + (n - k);
-    let p = turn_place(&mut square[from..to], &mut l[k..n], b, q);
-    rhs[k] = p.b;
-    p.rest
-}
 
-fn rotate_row(square: &mut [f64], n: usize, j: usize, l: &mut [f64], rhs: &mut [f64])
-    requires square { Square n square.old }
-    requires j_le_n { j ≤ n }
-    requires l_len { length l.old ≡ n }
-    requires rhs_len { length rhs.old ≡ n }
-    ensures { Turns n square.old square.new rhs.new (ahead n j square.old rhs.old l.old plus_zero) }
-{
-    let mut q = 0.0;
-    let mut k = j;
-    while k < n {
-        q = rotate_place(square, n, k, l, rhs, q);
-        k += 1;
+    // The new row l, whose right side is q, is rotated into row k of the square; where its entry is zero the row is skipped.
+    fn rotate_place(&mut self, k: usize, l: &mut [f64; 16], q: f64) -> f64
+        requires { k < self.old.n }
+        ensures kept { Kept self.old self.new }
+        ensures ahead { Ahead self.old.n self.old.upper_r.now self.new.upper_r.now (ahead self.old.n k self.old.upper_r.now self.old.rhs.now (take self.old.n l.old) q) (ahead self.old.n (k + 1) self.new.upper_r.now self.new.rhs.now (take self.old.n l.new) result) }
+    {
+        if l[k] == 0.0 {
+            return q;
+        }
+        let n = self.n;
+        let b = self.rhs[k];
+        let from = self.cell_at(k, k);
+        let to = from + (n - k);
+        let p = turn_place(&mut self.upper_r[from..to], &mut l[k..n], b, q);
+        self.rhs[k] = p.b;
+        p.rest
     }
-}
 
-fn start_row(square: &mut [f64], n: usize, j: usize, d: f64, rhs: &mut [f64])
-    requires square { Square n square.old }
-    requires j_lt_n { j < n }
-    requires rhs_len { length rhs.old ≡ n }
-    ensures { Turns n square.old square.new rhs.new (up_to j (edges_of n square.old) rhs.old (started d (drop j (edges_of n square.old)) (drop j rhs.old))) }
-{
-    if d == 0.0 {
-        return;
+    fn rotate_row(&mut self, j: usize, l: &mut [f64; 16])
+        requires { j ≤ self.old.n }
+        ensures kept { Kept self.old self.new }
+        ensures turned { Turns self.old.n self.old.upper_r.now self.new.upper_r.now self.new.rhs.now (ahead self.old.n j self.old.upper_r.now self.old.rhs.now (take self.old.n l.old) plus_zero) }
+    {
+        let mut q = 0.0;
+        for k in j..self.n {
+            q = self.rotate_place(k, l, q);
+        }
     }
-    let mut l = room16();
-    l[j] = d;
-    rotate_row(square, n, j, &mut l[..n], rhs);
-}
 
-// The diagonal entry of a row that is done; v goes in its place.
-fn end_row(square: &mut [f64], n: usize, j: usize, v: f64) -> f64
-    requires square { Square n square.old }
-    requires j_lt_n { j < n }
-    ensures { Ends n j square.old square.new v result }
-{
-    let p = cell_at(n, j, j);
-    let old = square[p];
-    square[p] = v;
-    old
-}
-
-fn mirror_column(square: &mut [f64], n: usize, k: usize)
-    requires square { Square n square.old }
-    requires k_lt_n { k < n }
-    ensures { MirrorsColumn n k square.old square.new }
-{
-    let mut i = k + 1;
-    while i < n {
-        let p = cell_at(n, i, k);
-        let q = cell_at(n, k, i);
-        square[q] = square[p];
-        i += 1;
+    fn start_row(&mut self, j: usize, d: f64)
+        requires { j < self.old.n }
+        ensures kept { Kept self.old self.new }
+        ensures turned { Turns self.old.n self.old.upper_r.now self.new.upper_r.now self.new.rhs.now (up_to j (edges_of self.old.n self.old.upper_r.now) self.old.rhs.now (started d (drop j (edges_of self.old.n self.old.upper_r.now)) (drop j self.old.rhs.now))) }
+    {
+        if d == 0.0 {
+            return;
+        }
+        let mut l: [f64; 16] = filled(0.0);
+        l[j] = d;
+        self.rotate_row(j, &mut l);
     }
-}
 
-fn mirror(square: &mut [f64], n: usize)
-    requires { Square n square.old }
-    ensures { Mirrors n square.old square.new }
-{
-    let mut k = 0;
-    while k < n {
-        mirror_column(square, n, k);
-        k += 1;
+    // The diagonal entry of a row that is done; v goes in its place.
+    fn end_row(&mut self, j: usize, v: f64) -> f64
+        requires { j < self.old.n }
+        ensures kept { Kept self.old self.new }
+        ensures rhs_same { self.new.rhs.now ≡ self.old.rhs.now }
+        ensures ended { Ends self.old.n j self.old.upper_r.now self.new.upper_r.now v result }
+    {
+        let p = self.cell_at(j, j);
+        let old = self.upper_r[p];
+        self.upper_r[p] = v;
+        old
     }
-}
 
-fn save_diagonal(square: &[f64], n: usize, saved: &mut [f64])
-    requires square { Square n square.now }
-    requires saved_len { length saved.old ≡ n }
-    ensures { saved.new ≡ heads (edges_of n square.now) }
-{
-    let mut j = 0;
-    while j < n {
-        let p = cell_at(n, j, j);
-        saved[j] = square[p];
-        j += 1;
+    fn mirror_column(&mut self, k: usize)
+        requires { k < self.old.n }
+        ensures kept { Kept self.old self.new }
+        ensures rhs_same { self.new.rhs.now ≡ self.old.rhs.now }
+        ensures mirrored { MirrorsColumn self.old.n k self.old.upper_r.now self.new.upper_r.now }
+    {
+        for i in k + 1..self.n {
+            let p = self.cell_at(i, k);
+            let q = self.cell_at(k, i);
+            self.upper_r[q] = self.upper_r[p];
+        }
     }
-}
 
-// R's diagonal is lost to Lᵀ's, and put back row by row.
-fn eliminate_rows(
-    square: &mut [f64],
-    n: usize,
-    ds: &[f64],
-    rhs: &mut [f64],
-    ldiag: &mut [f64],
-    saved: &[f64],
-)
-    requires square { Square n square.old }
-    requires ds_len { length ds.now ≡ n }
-    requires rhs_len { length rhs.old ≡ n }
-    requires ldiag_len { length ldiag.old ≡ n }
-    requires saved_value { saved.now ≡ heads (edges_of n square.old) }
-    ensures { Settles n square.old square.new rhs.new ldiag.new (eliminated ds.now (edges_of n square.old) rhs.old) }
-{
-    let mut j = 0;
-    while j < n {
-        start_row(square, n, j, ds[j], rhs);
-        ldiag[j] = end_row(square, n, j, saved[j]);
-        j += 1;
+    fn mirror(&mut self)
+        ensures kept { Kept self.old self.new }
+        ensures rhs_same { self.new.rhs.now ≡ self.old.rhs.now }
+        ensures mirrored { Mirrors self.old.n self.old.upper_r.now self.new.upper_r.now }
+    {
+        for k in 0..self.n {
+            self.mirror_column(k);
+        }
     }
-}
 
-pub(crate) fn eliminate(
-    square: &mut [f64],
-    n: usize,
-    ds: &[f64],
-    rhs: &mut [f64],
-    ldiag: &mut [f64],
-)
-    requires square { Square n square.old }
-    requires ds_len { length ds.now ≡ n }
-    requires rhs_len { length rhs.old ≡ n }
-    requires ldiag_len { length ldiag.old ≡ n }
-    ensures { Eliminates n ds.now square.old square.new rhs.old rhs.new ldiag.new }
-{
-    mirror(square, n);
-    let mut saved = room16();
-    save_diagonal(square, n, &mut saved[..n]);
-    eliminate_rows(square, n, ds, rhs, ldiag, &saved[..n]);
+    fn save_diagonal(&self, saved: &mut [f64])
+        requires { length saved.old ≡ self.now.n }
+        ensures { saved.new ≡ heads (edges_of self.now.n self.now.upper_r.now) }
+    {
+        for (j, d) in saved.iter_mut().enumerate() {
+            let p = self.cell_at(j, j);
+            *d = self.upper_r[p];
+        }
+    }
+
+    // R's diagonal is lost to Lᵀ's, and put back row by row.
+    fn eliminate_rows(&mut self, ds: &[f64], ldiag: &mut [f64], saved: &[f64])
+        requires ds_len { (length ds.now ≡ self.old.n) × (length ldiag.old ≡ self.old.n) }
+        requires saved_value { saved.now ≡ heads (edges_of self.old.n self.old.upper_r.now) }
+        ensures kept { Kept self.old self.new }
+        ensures settled { Settles self.old.n self.old.upper_r.now self.new.upper_r.now self.new.rhs.now ldiag.new (eliminated ds.now (edges_of self.old.n self.old.upper_r.now) self.old.rhs.now) }
+    {
+        for j in 0..self.n {
+            self.start_row(j, ds[j]);
+            ldiag[j] = self.end_row(j, saved[j]);
+        }
+    }
+
+    pub(crate) fn eliminate(&mut self, ds: &[f64], ldiag: &mut [f64])
+        requires { (length ds.now ≡ self.old.n) × (length ldiag.old ≡ self.old.n) }
+        ensures kept { Kept self.old self.new }
+        ensures eliminated { Eliminates self.old.n ds.now self.old.upper_r.now self.new.upper_r.now self.old.rhs.now self.new.rhs.now ldiag.new }
+    {
+        self.mirror();
+        let n = self.n;
+        let mut saved: [f64; 16] = filled(0.0);
+        self.save_diagonal(&mut saved[..n]);
+        self.eliminate_rows(ds, ldiag, &saved[..n]);
+    }
 }

@@ -2,4 +2,5 @@
 #![tactic(auto)]
 
 mod eliminate;
+mod elimination;
 pub mod square;

@@ -1,29 +1,33 @@
 // Document 01, module 5: `eliminate_diag` of the Rust, on a square that is lent.
 ghost use Rattle.std.specs.Prelude.{◌≡◌};
-ghost use Rattle.leaves.specs.Reply.{done_of};
+ghost use Rattle.leaves.specs.Reply.{reply_of, failed_by};
 ghost use Rattle.leaves.specs.Tests.{first_of};
 ghost use Rattle.eliminate.specs.Eliminated.{eliminated_as, eliminate_tests, eliminate_call};
 
-use crate::eliminate::eliminate;
-use leaves::reply::Done;
+use crate::elimination::Elimination;
+use leaves::reply::Refusal;
 use leaves::sizes::outside;
 
-fn check(n: usize, square: usize, ds: usize, rhs: usize, ldiag: usize) -> u8
-    ensures { result ≡ first_of (eliminate_tests n square ds rhs ldiag) }
+fn check(n: usize, square: usize, ds: usize, rhs: usize, ldiag: usize) -> Result<(), Refusal>
+    ensures { failed_by result ≡ first_of (eliminate_tests n square ds rhs ldiag) }
 {
     if outside(1, n) {
-        return 2;
+        return Err(Refusal::Sizes);
     }
     if square != n * n {
-        return 3;
+        return Err(Refusal::Length);
     }
     if ds != n {
-        return 3;
+        return Err(Refusal::Length);
     }
     if rhs != n {
-        return 3;
+        return Err(Refusal::Length);
     }
-    if ldiag != n { 3 } else { 0 }
+    if ldiag != n {
+        Err(Refusal::Length)
+    } else {
+        Ok(())
+    }
 }
 
 // Eliminates a diagonal against R and a right side.
@@ -40,17 +44,19 @@ pub fn eliminate_diag(
     ds: &[f64],
     rhs: &mut [f64],
     ldiag: &mut [f64],
-) -> Done
-    ensures { eliminated_as (done_of result) square.new rhs.new ldiag.new ≡ eliminate_call n ds.now square.old rhs.old ldiag.old }
+) -> Result<(), Refusal>
+    ensures { eliminated_as (reply_of result) square.new rhs.new ldiag.new ≡ eliminate_call n ds.now square.old rhs.old ldiag.old }
 {
-    let c = check(n, square.len(), ds.len(), rhs.len(), ldiag.len());
-    if c != 0 {
-        return Done::Refused(c);
-    }
+    check(n, square.len(), ds.len(), rhs.len(), ldiag.len())?;
+    let mut elimination = Elimination {
+        n,
+        upper_r: square,
+        rhs,
+    };
     if n == 1 {
-        eliminate(square, n, ds, rhs, ldiag);
-        return Done::Written;
+        elimination.eliminate(ds, ldiag);
+        return Ok(());
     }
-    eliminate(square, n, ds, rhs, ldiag);
-    Done::Written
+    elimination.eliminate(ds, ldiag);
+    Ok(())
 }

@@ -5,18 +5,21 @@ use mathlib.Core.List.{List, [], ◌∷◌, ◌++◌}
 use Prim.Native.Nat.{ℕ, suc, ◌*◌, ◌<◌}
 use native.Mathlib.Omega.{arith}
 use lib.ListN.{length, take, drop, get_or, length-append, length-drop, length-replicate}
-use lib.Seq.{take_at}
 use lib.Ieee.{Float}
 use Rattle.leaves.specs.Number.{plus_zero}
-use Rattle.leaves.specs.Reply.{Reply}
+use Rattle.std.specs.Prelude.{Result, Ok}
+use Rattle.leaves.specs.Reply.{Reply, refused, reply_of}
+use Rattle.leaves.specs.declared.reply.Refusal.{Refusal}
+use Rattle.leaves.proofs.Refusals.{call-worked}
+use Rattle.leaves.proofs.Replies.{reply_of-ok}
 use Rattle.factor.specs.Room.{Room, part, load, lay, leaving, emptied}
 use Rattle.leaves.specs.Square.{uppers_of, belows_of, cleared}
 use Rattle.leaves.specs.Tests.{all_finite}
 use Rattle.factor.specs.Solve.{scatter, gather, damped_solved}
 use Rattle.eliminate.specs.Eliminate.{Rows, damping, heads, tails}
-use Rattle.eliminate.specs.Eliminated.{eliminated_as, eliminate_call}
+use Rattle.eliminate.specs.Eliminated.{Eliminated, eliminated_as, eliminate_call}
 use Rattle.eliminate.specs.inner.Edges.{Eliminates}
-use Rattle.eliminate.proofs.Lent.{eliminates}
+use Rattle.eliminate.proofs.Lent.{fitted, eliminates}
 use Rattle.factor.specs.Solves.{damped_room, damped_numbers}
 use Rattle.factor.specs.PivotOrder.{lowered}
 use Rattle.factor.proofs.Layouts.{square_upper, square_of_lem, laid, load_shaped, leaving_shaped, load-lay}
@@ -73,26 +76,34 @@ module _ (n : ℕ) (ds s t w w' l₀ l : List Float) {d : Reply (Unit {0})} (p :
   right_is : w' ≡ (damping_of n ds s).1
   right_is = works.right ∙ ap (λ (x : Rows). x.1) same_rows
 
+  -- nothing is refused
+  pub eliminate_fits : (r : Result (Unit {0}) Refusal) → d ≡ reply_of r → r ≡ Ok tt
+  unfolding eliminate_call
+  eliminate_fits r h =
+      let k = square_of_lem n s sized in
+      let f = fitted n _ _ _ _ (record { sizes = record { some = p.0; few = k.small }; cells = k.whole; scales = hd; right = right_long; diagonal = hl }) in
+      reply_of-ok r (sym h ∙ ap (λ (x : Eliminated). x.reply) (told ∙ sym (call-worked _ (λ (j : ℕ). eliminated_as (refused j) (take (n * n) s) w l₀) _ f)))
+
   -- LAW: the room that is left
-  pub room_left : {s' : List Float} → length l ≡ n
-      → s' ≡ lay (leaving (load n (t ++ drop (n * n) s)).below l (load n (t ++ drop (n * n) s))) → load n s' ≡ damped_room (damping_of n ds s) (load n s)
+  pub room_left : {s' u : List Float} → length l ≡ n → s' ≡ lay (leaving (load n u).below l (load n u)) → u ≡ t ++ drop (n * n) s → load n s' ≡ damped_room (damping_of n ds s) (load n s)
   unfolding damped_room
-  room_left k g =
-      left_loaded n (t ++ drop (n * n) s) l (sized_lent n t s sized e) k g ∙ square_leaving n t s l sized e works.upper
+  room_left k g i =
+      left_loaded n (t ++ drop (n * n) s) l (sized_lent n t s sized e) k (rw i at g) ∙ square_leaving n t s l sized e works.upper
       ∙ ap (λ (x : List (List Float)). leaving x l (load n s)) below_is ∙ ap (λ (x : List Float). leaving (tails (damping_of n ds s).0) x (load n s)) diagonal_is
 
   -- LAW: the room that is left, but for work
-  pub room_lowered : (s' : List Float) → load n s' ≡ with_part 2 l (load n (t ++ drop (n * n) s)) → load n s' ≡ lowered (damping_of n ds s) (load n s)
+  pub room_lowered : (s' : List Float) {u : List Float} → load n s' ≡ with_part 2 l (load n u) → u ≡ t ++ drop (n * n) s → load n s' ≡ lowered (damping_of n ds s) (load n s)
   unfolding lowered with_part
-  room_lowered s' g =
-      g ∙ ap (λ (r : Room). with_part 2 l r) (square_lent n t s sized e (works.upper ∙ square_upper n s) below_is)
+  room_lowered s' g i =
+      (rw i at g) ∙ ap (λ (r : Room). with_part 2 l r) (square_lent n t s sized e (works.upper ∙ square_upper n s) below_is)
       ∙ ap (λ (x : List Float). with_part 2 x (with_square (load n s).upper (tails (damping_of n ds s).0) (load n s))) diagonal_is
 
   -- LAW: and the step
-  pub step_left : {x : List Float} → x ≡ damped_solved l (belows_of n (take (n * n) (t ++ drop (n * n) s))) w' → x ≡ damped_numbers (damping_of n ds s)
-  step_left g =
-      g ∙ ap (λ (y : List Float). damped_solved l (belows_of n y) w') (take_at t (drop (n * n) s) (n * n) (e ∙ (square_of_lem n s sized).whole))
-      ∙ ap (λ (y : List (List Float)). damped_solved l y w') below_is ∙ ap (λ (y : List Float). damped_solved y (tails (damping_of n ds s).0) w') diagonal_is
+  pub step_left : {u x : List Float} {ls : List (List Float)} → u ≡ t ++ drop (n * n) s → ls ≡ (load n u).below → x ≡ damped_solved l ls w' → x ≡ damped_numbers (damping_of n ds s)
+  step_left i b g =
+      g
+      ∙ ap (λ (y : List (List Float)). damped_solved l y w') (b ∙ ap (λ (y : List Float). (load n y).below) i ∙ ap (λ (r : Room). r.below) (square_lent n t s sized e (works.upper ∙ square_upper n s) below_is))
+      ∙ ap (λ (y : List Float). damped_solved y (tails (damping_of n ds s).0) w') diagonal_is
       ∙ ap (λ (y : List Float). damped_solved (heads (damping_of n ds s).0) (tails (damping_of n ds s).0) y) right_is
 
 -- ---- 8 after elimination: emptied, it is the room from before, emptied

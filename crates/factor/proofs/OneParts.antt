@@ -4,7 +4,8 @@ use contract.Lifetimes.{Lfts}
 use borrow.Fn.World.{ArgsD}
 use borrow.Fn.Kinds.{ended_of}
 use denote.Triple.Clauses.{AtExit}
-use Rattle.leaves.specs.declared.reply.Done.{Done}
+use Rattle.std.specs.Prelude.{Result}
+use Rattle.leaves.specs.declared.reply.Refusal.{Refusal}
 use Rattle.factor.proofs.Answers.{read_same}
 use Rattle.factor.specs.contracts.parts.qt_b.{signature as qt-b-signature}
 use Rattle.factor.proofs.parts.qt_b.Reads as qt_b
@@ -19,18 +20,18 @@ use Rattle.factor.specs.contracts.parts.rest.{signature as rest-signature}
 use Rattle.factor.proofs.parts.rest.Reads as rest
 use Rattle.factor.proofs.parts.rest.Kinds as rest-kinds
 
-pub qt_b-one_outcome : (κs : Lfts 2) (a : ArgsD qt-b-signature κs) (r₁ r₂ : Done) (s₁ s₂ : AtExit (ended_of 2 qt-b-kinds.ps qt-b-kinds.r) κs)
+pub qt_b-one_outcome : (κs : Lfts 2) (a : ArgsD qt-b-signature κs) (r₁ r₂ : Result (Unit {0}) Refusal) (s₁ s₂ : AtExit (ended_of 2 qt-b-kinds.ps qt-b-kinds.r) κs)
     → qt_b.Post κs a r₁ s₁ → qt_b.Post κs a r₂ s₂ → (r₁ ≡ r₂) × (s₁.1.1.0.now ≡ s₂.1.1.0.now)
 qt_b-one_outcome κs a r₁ r₂ s₁ s₂ p q = read_same r₁ r₂ (p ∙ sym q)
 
-pub norms-one_outcome : (κs : Lfts 2) (a : ArgsD norms-signature κs) (r₁ r₂ : Done) (s₁ s₂ : AtExit (ended_of 2 norms-kinds.ps norms-kinds.r) κs)
+pub norms-one_outcome : (κs : Lfts 2) (a : ArgsD norms-signature κs) (r₁ r₂ : Result (Unit {0}) Refusal) (s₁ s₂ : AtExit (ended_of 2 norms-kinds.ps norms-kinds.r) κs)
     → norms.Post κs a r₁ s₁ → norms.Post κs a r₂ s₂ → (r₁ ≡ r₂) × (s₁.1.1.0.now ≡ s₂.1.1.0.now)
 norms-one_outcome κs a r₁ r₂ s₁ s₂ p q = read_same r₁ r₂ (p ∙ sym q)
 
-pub diagonal-one_outcome : (κs : Lfts 2) (a : ArgsD diagonal-signature κs) (r₁ r₂ : Done) (s₁ s₂ : AtExit (ended_of 2 diagonal-kinds.ps diagonal-kinds.r) κs)
+pub diagonal-one_outcome : (κs : Lfts 2) (a : ArgsD diagonal-signature κs) (r₁ r₂ : Result (Unit {0}) Refusal) (s₁ s₂ : AtExit (ended_of 2 diagonal-kinds.ps diagonal-kinds.r) κs)
     → diagonal.Post κs a r₁ s₁ → diagonal.Post κs a r₂ s₂ → (r₁ ≡ r₂) × (s₁.1.1.0.now ≡ s₂.1.1.0.now)
 diagonal-one_outcome κs a r₁ r₂ s₁ s₂ p q = read_same r₁ r₂ (p ∙ sym q)
 
-pub rest-one_outcome : (κs : Lfts 1) (a : ArgsD rest-signature κs) (r₁ r₂ : Done) (s₁ s₂ : AtExit (ended_of 1 rest-kinds.ps rest-kinds.r) κs)
+pub rest-one_outcome : (κs : Lfts 1) (a : ArgsD rest-signature κs) (r₁ r₂ : Result (Unit {0}) Refusal) (s₁ s₂ : AtExit (ended_of 1 rest-kinds.ps rest-kinds.r) κs)
     → rest.Post κs a r₁ s₁ → rest.Post κs a r₂ s₂ → (r₁ ≡ r₂) × (s₁.1.0.now ≡ s₂.1.0.now)
 rest-one_outcome κs a r₁ r₂ s₁ s₂ p q = read_same r₁ r₂ (p ∙ sym q)

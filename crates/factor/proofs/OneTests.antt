@@ -1,11 +1,13 @@
 -- No second outcome fits the contract of a test: `Post` is what the source's `ensures` says. Assumes nothing.
-use Prim.Native.Nat.{ℕ}
 use mathlib.Core.Path.{◌≡◌, sym, ◌∙◌}
 use mathlib.Core.Bool.{Bool}
 use contract.Lifetimes.{Lfts}
 use borrow.Fn.World.{ArgsD}
 use borrow.Fn.Kinds.{ended_of}
 use denote.Triple.Clauses.{AtExit}
+use Rattle.std.specs.Prelude.{Result}
+use Rattle.leaves.specs.declared.reply.Refusal.{Refusal}
+use Rattle.factor.proofs.Answers.{failed_by-same}
 use Rattle.factor.specs.contracts.check.is_empty.{signature as is-empty-signature}
 use Rattle.factor.proofs.check.is_empty.Reads as is-empty
 use Rattle.factor.proofs.check.is_empty.Kinds as is-empty-kinds
@@ -30,14 +32,14 @@ pub is_nothing-one_outcome : (κs : Lfts 0) (a : ArgsD is-nothing-signature κs)
     → is-nothing.Post κs a r₁ s₁ → is-nothing.Post κs a r₂ s₂ → r₁ ≡ r₂
 is_nothing-one_outcome κs a r₁ r₂ s₁ s₂ p q = p ∙ sym q
 
-pub permutation-one_outcome : (κs : Lfts 1) (a : ArgsD permutation-signature κs) (r₁ r₂ : ℕ) (s₁ s₂ : AtExit (ended_of 1 permutation-kinds.ps permutation-kinds.r) κs)
+pub permutation-one_outcome : (κs : Lfts 1) (a : ArgsD permutation-signature κs) (r₁ r₂ : Result (Unit {0}) Refusal) (s₁ s₂ : AtExit (ended_of 1 permutation-kinds.ps permutation-kinds.r) κs)
     → permutation.Post κs a r₁ s₁ → permutation.Post κs a r₂ s₂ → r₁ ≡ r₂
-permutation-one_outcome κs a r₁ r₂ s₁ s₂ p q = p ∙ sym q
+permutation-one_outcome κs a r₁ r₂ s₁ s₂ p q = failed_by-same r₁ r₂ (p ∙ sym q)
 
-pub room-one_outcome : (κs : Lfts 0) (a : ArgsD room-signature κs) (r₁ r₂ : ℕ) (s₁ s₂ : AtExit (ended_of 0 room-kinds.ps room-kinds.r) κs)
+pub room-one_outcome : (κs : Lfts 0) (a : ArgsD room-signature κs) (r₁ r₂ : Result (Unit {0}) Refusal) (s₁ s₂ : AtExit (ended_of 0 room-kinds.ps room-kinds.r) κs)
     → room.Post κs a r₁ s₁ → room.Post κs a r₂ s₂ → r₁ ≡ r₂
-room-one_outcome κs a r₁ r₂ s₁ s₂ p q = p ∙ sym q
+room-one_outcome κs a r₁ r₂ s₁ s₂ p q = failed_by-same r₁ r₂ (p ∙ sym q)
 
-pub ordered-one_outcome : (κs : Lfts 1) (a : ArgsD ordered-signature κs) (r₁ r₂ : ℕ) (s₁ s₂ : AtExit (ended_of 1 ordered-kinds.ps ordered-kinds.r) κs)
+pub ordered-one_outcome : (κs : Lfts 1) (a : ArgsD ordered-signature κs) (r₁ r₂ : Result (Unit {0}) Refusal) (s₁ s₂ : AtExit (ended_of 1 ordered-kinds.ps ordered-kinds.r) κs)
     → ordered.Post κs a r₁ s₁ → ordered.Post κs a r₂ s₂ → r₁ ≡ r₂
-ordered-one_outcome κs a r₁ r₂ s₁ s₂ p q = p ∙ sym q
+ordered-one_outcome κs a r₁ r₂ s₁ s₂ p q = failed_by-same r₁ r₂ (p ∙ sym q)

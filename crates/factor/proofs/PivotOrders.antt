@@ -3,13 +3,12 @@
 use mathlib.Core.Path.{◌≡◌, sym, ap, ◌∙◌}
 use mathlib.Core.Bool.{Bool}
 use mathlib.Core.List.{List, ◌++◌}
-use Prim.Native.Nat.{ℕ, ◌*◌, min}
+use Prim.Native.Nat.{ℕ, min}
 use lib.ListN.{length, take, drop}
 use lib.Ieee.{Float}
-use borrow.Author.Tests.{ne_eqb}
-use Rattle.leaves.specs.Reply.{answered, refused}
-use Rattle.leaves.specs.Square.{uppers_of}
-use Rattle.leaves.proofs.Refusals.{call-refused, call-worked}
+use Rattle.leaves.specs.Reply.{answered, refused, refusal_number}
+use Rattle.leaves.specs.declared.reply.Refusal.{Refusal}
+use Rattle.leaves.proofs.Refusals.{call-worked}
 use Rattle.eliminate.specs.Eliminate.{Rows, damping}
 use Rattle.factor.specs.Room.{load, lay, emptied}
 use Rattle.factor.specs.Tests.{tested}
@@ -20,7 +19,8 @@ use Rattle.factor.specs.Outcome.{written, read, left_in}
 use Rattle.factor.specs.PivotOrder.{lowered, zero_in, damped_in, held_zero_in, held_damped_in, product_in, full_rank, empty_in}
 use Rattle.factor.specs.declared.state.Held.{Held}
 use Rattle.factor.specs.declared.state.Held.TheVariants as held
-use Rattle.factor.proofs.Layouts.{square_upper, laid}
+use Rattle.factor.proofs.Answers.{refused_by}
+use Rattle.factor.proofs.Layouts.{laid}
 use Rattle.factor.proofs.Lends.{both_long, written_first, lent_passed}
 
 -- ---- the numbers of each, of the room that is lent
@@ -37,28 +37,28 @@ abbrev pub product_of : ℕ → List Float → List Float
 product_of n store = held_product_of held.Zero (load n store)
 
 -- ---- the damped solve
-module _ (n : ℕ) (ds store w : List Float) {c : ℕ} (e : c ≡ tested 1 n store (min (length ds) (length w))) where
-  pub damped-refused : (c ≡ 0 → ⊥) → left_in (refused c) store w ≡ damped_in n ds store w
+module _ (n : ℕ) (ds store w : List Float) where
+  pub damped-refused : (r : Refusal) → refusal_number r ≡ tested 1 n store (min (length ds) (length w)) → left_in (refused (refusal_number r)) store w ≡ damped_in n ds store w
   unfolding damped_in
-  damped-refused h = call-refused _ (λ (k : ℕ). left_in (refused k) store w) _ c (sym e) (ne_eqb c 0 h)
+  damped-refused r e = refused_by _ (λ (k : ℕ). left_in (refused k) store w) _ r e
 
-  pub damped-written : c ≡ 0 → {s x : List Float} → load n s ≡ lowered (rows_of n ds store) (load n store) → x ≡ damped_numbers (rows_of n ds store)
+  pub damped-written : 0 ≡ tested 1 n store (min (length ds) (length w)) → {s u x : List Float} → s ≡ u → load n u ≡ lowered (rows_of n ds store) (load n store) → x ≡ damped_numbers (rows_of n ds store)
       → length x ≡ length (take n w) → left_in (answered tt) s (x ++ drop n w) ≡ damped_in n ds store w
   unfolding damped_in
-  damped-written z {s} {x} f g l =
-      ap (λ (t : List Float). left_in (answered tt) t (x ++ drop n w)) (laid n s f)
-      ∙ ap (λ (o : List Float). left_in (answered tt) (lay (lowered (rows_of n ds store) (load n store))) o) (written_first n (damped_numbers (rows_of n ds store)) w g (l ∙ (both_long 1 n store ds w e z).1))
-      ∙ call-worked _ (λ (k : ℕ). left_in (refused k) store w) _ (sym e ∙ z)
+  damped-written e {s} {u} {x} i f g l =
+      ap (λ (t : List Float). left_in (answered tt) t (x ++ drop n w)) (i ∙ laid n u f)
+      ∙ ap (λ (o : List Float). left_in (answered tt) (lay (lowered (rows_of n ds store) (load n store))) o) (written_first n (damped_numbers (rows_of n ds store)) w g (l ∙ (both_long 1 n store ds w e).1))
+      ∙ call-worked _ (λ (k : ℕ). left_in (refused k) store w) _ (sym e)
 
 -- ---- the rank, of the square that is lent
-pub full_rank-refused : (m n : ℕ) (store : List Float) {c : ℕ} → c ≡ tested m n store n → (c ≡ 0 → ⊥) → refused c ≡ full_rank m n store
+pub full_rank-refused : (m n : ℕ) (store : List Float) (r : Refusal) → refusal_number r ≡ tested m n store n → refused (refusal_number r) ≡ full_rank m n store
 unfolding full_rank
-full_rank-refused m n store {c} e h = call-refused _ (λ (k : ℕ). refused k) _ c (sym e) (ne_eqb c 0 h)
+full_rank-refused m n store r e = refused_by _ (λ (k : ℕ). refused k) _ r e
 
-pub full_rank-told : (m n : ℕ) (store : List Float) {c : ℕ} → c ≡ tested m n store n → c ≡ 0
-    → {b : Bool} → b ≡ non_singular_of m n (uppers_of n (take (n * n) store)) → answered b ≡ full_rank m n store
+pub full_rank-told : (m n : ℕ) (store : List Float) → 0 ≡ tested m n store n
+    → {k : ℕ} {us : List (List Float)} {b : Bool} → k ≡ n → us ≡ (load n store).upper → b ≡ non_singular_of m k us → answered b ≡ full_rank m n store
 unfolding full_rank
-full_rank-told m n store e z h = rw (h, square_upper n store) (call-worked _ (λ (k : ℕ). refused k) _ (sym e ∙ z))
+full_rank-told m n store e i u h = rw (h, i, u) (call-worked _ (λ (k : ℕ). refused k) _ (sym e))
 
 -- ---- where the tests are passed
 pub zero_in_passed : (m n : ℕ) (store w : List Float) → tested m n store (length w) ≡ 0 → zero_in m n store w ≡ read (answered tt) (written (zero_of m n store) w)

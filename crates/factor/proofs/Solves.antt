@@ -11,8 +11,15 @@ use lib.ListN.{length, get_or, take, drop, set, replicate, length-drop, length-m
 use lib.Seq.{drop-cons, take_all, take-take, take_at, drop_at, get_or-take, length-take-le}
 use lib.Ieee.{Float, nan, eq}
 use borrow.Author.Tests.{ltb-true, ltb-false, lt-leb, le-leb}
+use Rattle.std.specs.List.{AllWithin, HoldsAt}
+use Rattle.std.specs.Option.{MatchOption, unwrap_or}
+use Rattle.std.proofs.Common.{Option}
+use Rattle.std.proofs.lemmas.Iterator.{index_from_first}
 use Rattle.leaves.specs.Number.{plus_zero}
-use Rattle.leaves.specs.Reply.{Reply}
+use Rattle.std.specs.Prelude.{Result, Ok}
+use Rattle.leaves.specs.Reply.{Reply, answered, reply_of}
+use Rattle.leaves.specs.declared.reply.Refusal.{Refusal}
+use Rattle.leaves.proofs.Replies.{reply_of-ok}
 use Rattle.leaves.specs.Triangle.{columns, solve_place, solve_down, solve_upper}
 use Rattle.leaves.proofs.Triangles.{column_at, solved}
 use Rattle.leaves.specs.Square.{uppers_of, diagonal, zeros}
@@ -93,6 +100,18 @@ rank_most (d ∷ ds) = go (eq d plus_zero) refl (rank_most ds)
     go true t l = let q : rank (d ∷ ds) ≡ 0 = rank-cons d ds true t in omega arith
     go false t l = let q : rank (d ∷ ds) ≡ suc (rank ds) = rank-cons d ds false t in omega arith
 
+abbrev pub IsZero : Float → Type 0
+IsZero d = eq d plus_zero ≡ true
+
+abbrev pub NotZero : Float → Type 0
+NotZero d = eq d plus_zero ≡ false
+
+-- what a search for the first zero finds
+pub rank_first : (ds : List Float) (r : Option ℕ) → MatchOption r (AllWithin NotZero ds 0 (length ds)) (λ i. (i < length ds) × HoldsAt IsZero ds i × AllWithin NotZero ds 0 i)
+    → unwrap_or r (length ds) ≡ rank ds
+rank_first ds r h =
+    sym (index_from_first rank IsZero NotZero rank_nil (λ d ds' t. rank-cons d ds' true t) (λ d ds' t. rank-cons d ds' false t ∙ omega arith) ds r h)
+
 pub singular_few : (m n : ℕ) (us : List (List Float)) → m < n → false ≡ non_singular_of m n us
 unfolding non_singular_of
 singular_few m n us h = rw (lt-leb n m h, non_singular_of)
@@ -128,12 +147,19 @@ down_upper n s q k l x = down_same (columns n k s) (uppers_of n s) k x cell abov
         rw (column_at n k i s h, upper_at n s q i (omega arith))
         (take-take i n (drop (i * n) s) (omega arith) ∙ sym (take-take i (suc i) (drop (i * n) s) (le_step (le_refl i))))
 
--- what the leaf leaves where it refuses nothing
-solve_leaves : (n k : ℕ) (s x l : List Float) {d : Reply (Unit {0})} → Square n s → k ≤ n → k ≤ length x → (d, l) ≡ solve_upper n k s x → l ≡ solve_down (uppers_of n s) k x
-solve_leaves n k s x l q h g e =
-    let w = q.whole in
-    let f : k * n ≤ length s = omega (arith, mul-le-mul_right {m = k} {n = n} n h) in
-    ap (λ (p : Reply (Unit {0}) × List Float). p.1) (e ∙ sym (solved n k s x (solve_down (columns n k s) k x) h g f refl)) ∙ down_upper n s q k h x
+-- what the leaf answers, and what it leaves, on slices that fit
+module _ (n k : ℕ) (s x : List Float) (q : Square n s) (h : k ≤ n) (g : k ≤ length x) where
+  told : (answered tt, solve_down (columns n k s) k x) ≡ solve_upper n k s x
+  told =
+      let w = q.whole in
+      let f : k * n ≤ length s = omega (arith, mul-le-mul_right {m = k} {n = n} n h) in
+      solved n k s x (solve_down (columns n k s) k x) h g f refl
+
+  solve_leaves : (l : List Float) {d : Reply (Unit {0})} → (d, l) ≡ solve_upper n k s x → l ≡ solve_down (uppers_of n s) k x
+  solve_leaves l e = ap (λ (p : Reply (Unit {0}) × List Float). p.1) (e ∙ sym told) ∙ down_upper n s q k h x
+
+  pub upper_fits : (l : List Float) (r : Result (Unit {0}) Refusal) → (reply_of r, l) ≡ solve_upper n k s x → r ≡ Ok tt
+  upper_fits l r e = reply_of-ok r (ap (λ (p : Reply (Unit {0}) × List Float). p.0) (e ∙ sym told))
 
 -- ---- the places from k on set to zero
 pub tail_cleared : (w z : List Float) (k : ℕ) → k ≤ length w → z ≡ replicate (length (take (length w - k) (drop k w))) plus_zero
@@ -163,7 +189,7 @@ module _ (m n top k : ℕ) (s : List Float) (f : top ≡ min m n) (r : k ≡ ran
       let p : length (take k w) ≡ k = length-take-le k w h in
       let a : take k w₁ ≡ take k w = cleared-take k w w₁ h e in
       let b : drop k w₁ ≡ zeros (length w - k) = cleared-drop k w w₁ h e in
-      let y : l ≡ solve_down (uppers_of n s) k (take k w) = solve_leaves n k s (take k w) l q rank-fits (omega arith) (g ∙ ap (solve_upper n k s) a) in
+      let y : l ≡ solve_down (uppers_of n s) k (take k w) = solve_leaves n k s (take k w) q rank-fits (omega arith) l (g ∙ ap (solve_upper n k s) a) in
       let i : length l ≡ k = j ∙ ap length a ∙ p in
       let u : k ≡ rank (take m (diagonal (uppers_of n s))) = r ∙ ap (λ (t : ℕ). rank (take t (diagonal (uppers_of n s)))) f ∙ ap rank (top_fewer m n s) in
       ap (λ (v : List Float). l ++ v) b ∙ ap (λ (v : ℕ). l ++ zeros (length w - v)) (sym i) ∙ ap (padded (length w)) y

@@ -3,7 +3,7 @@ use mathlib.Core.Path.{◌≡◌, sym, ap, ◌∙◌}
 use mathlib.Core.List.{List, ◌++◌, append_assoc}
 use Prim.Native.Nat.{ℕ, ◌+◌, ◌*◌, ◌≤◌}
 use native.Mathlib.Omega.{arith}
-use lib.ListN.{length, take, drop, length-append, length-replicate, length-take, length-drop, take-append-drop, replicate-append-replicate}
+use lib.ListN.{length, take, drop, length-append, length-replicate, length-drop, take-append-drop, replicate-append-replicate}
 use lib.Seq.{length-take-le, take_at, drop_at, drop-drop}
 use lib.Ieee.{Float}
 use Rattle.leaves.specs.Number.{plus_zero}
@@ -60,9 +60,6 @@ norms_part n s w ew h = rw ew (part_long (n * n + n) n s (omega arith))
 module _ (n : ℕ) (s v : List Float) (h : n * n + 4 * n ≤ length s) (lv : length v ≡ n) (w : ℕ) (ew : w ≡ n) where
   before_norms : length (take (n * n + n) s) ≡ n * n + n
   before_norms = length-take-le (n * n + n) s (omega arith)
-
-  pub norms-size : length (patch (n * n + n) w s v) ≡ length s
-  norms-size = simp (length-append, length-take, length-drop) (omega arith)
 
   pub norms_read : take n (drop (n * n + n) (patch (n * n + n) w s v)) ≡ v
   norms_read =

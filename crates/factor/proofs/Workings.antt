@@ -8,6 +8,8 @@ use native.Mathlib.Omega.{arith}
 use lib.ListN.{length, get_or, take, drop, replicate, length-append, length-replicate}
 use lib.Seq.{length-take-le, take_at, drop_at, drop-drop}
 use lib.Ieee.{Float}
+use Rattle.std.specs.Prelude.{Ok, Err}
+use Rattle.leaves.specs.declared.reply.Refusal.TheVariants as refusal
 use Rattle.leaves.specs.Number.{plus_zero}
 use Rattle.leaves.specs.Norm.{norm, ranges_of}
 use Rattle.leaves.specs.declared.norm.Ranges.{Ranges}
@@ -55,8 +57,8 @@ module _ (n : ℕ) (a q v rest : List Float) (la : length a ≡ n * n) (lq : len
 pub norms_long : (m n : ℕ) (jac : List Float) → length (map norm (columns m n jac)) ≡ n
 norms_long m n jac = norms-length (columns m n jac) ∙ columns-length m n jac
 
--- of what stands in the bench, its Jacobian J and its residuals R as they are lent
-module _ (m n : ℕ) (bench J R store : List Float) (ej : J ≡ take (m * n) bench) (er : R ≡ take m (drop (m * n) bench)) (sl : SquareLong m n (reduction_of m n (columns m n J) R)) where
+-- of what stands in the bench
+module _ (m n : ℕ) (bench store : List Float) (filled : SquareLong m n (reduction_of m n (columns m n (take (m * n) bench)) (take m (drop (m * n) bench)))) where
   abbrev cols : List (List Float)
   cols = columns m n (take (m * n) bench)
 
@@ -65,9 +67,6 @@ module _ (m n : ℕ) (bench J R store : List Float) (ej : J ≡ take (m * n) ben
 
   abbrev laid : List Float
   laid = lay (factored_room m n (map norm cols) f (drop (n * n + 4 * n) store))
-
-  filled : SquareLong m n f
-  filled = rw (ej, er) at sl
 
   finite_laid : all_finite (take (n * n + 2 * n) laid) ≡ finite_room (factored_room m n (map norm cols) f (drop (n * n + 4 * n) store))
   unfolding lay factored_room finite_room
@@ -84,37 +83,29 @@ module _ (m n : ℕ) (bench J R store : List Float) (ej : J ≡ take (m * n) ben
       rest_laid n (joined (uppers m 0 f.cols f.diag) (no_lower n)) (transformed n f.rhs) (map norm cols) (drop (n * n + 4 * n) store) filled (transformed_long n f.rhs) (norms_long m n (take (m * n) bench))
 
   module _
-      (order o : List ℕ) (s b : List Float) (xs : s ≡ lay (factored_room m n (map norm (columns m n J)) (reduction_of m n (columns m n J) R) (drop (n * n + 4 * n) store)))
-      (xo : o ≡ (reduction_of m n (columns m n J) R).order) (eb : b ≡ zeros (length (take (m * n + m) bench))) (seen : Ranges) (xf : seen ≡ ranges_of (measured m n (columns m n J) R)) (hb : m * n + m ≤ length bench) where
-    es : s ≡ laid
-    es = rw (ej, er) at xs
-
-    eo : o ≡ f.order
-    eo = rw (ej, er) at xo
-
-    ef : seen ≡ ranges_of (measured m n cols (take m (drop (m * n) bench)))
-    ef = rw (ej, er) at xf
-
-    bench_as : b ++ drop (m * n + m) bench ≡ zeros (m * n + m) ++ drop (length (zeros (m * n + m))) bench
+      (order o : List ℕ) (s b : List Float) (es : s ≡ laid) (eo : o ≡ f.order ++ drop n order) (eb : b ≡ zeros (m * n + m) ++ drop (m * n + m) bench) (seen : Ranges)
+      (ef : seen ≡ ranges_of (measured m n cols (take m (drop (m * n) bench)))) where
+    bench_as : b ≡ zeros (m * n + m) ++ drop (length (zeros (m * n + m))) bench
     bench_as =
         let l : length (zeros (m * n + m)) ≡ m * n + m = length-replicate (m * n + m) plus_zero in
-        rw (eb, length-take-le (m * n + m) bench hb, l)
+        rw l eb
 
-    pub stands : all_finite (take (n * n + 2 * n) s) ≡ true → outcome true seen m n s (o ++ drop n order) (b ++ drop (m * n + m) bench) ≡ factor_worked m n (take (m * n) bench) (drop (m * n) bench) store order bench
+    pub stands : all_finite (take (n * n + 2 * n) s) ≡ true → outcome (Ok seen) m n s o b ≡ factor_worked m n (take (m * n) bench) (drop (m * n) bench) store order bench
     unfolding factor_worked
     stands t =
         let g = sym finite_laid ∙ ap (λ (x : List Float). all_finite (take (n * n + 2 * n) x)) (sym es) ∙ t in
         rw (g, factor_worked) (rw (ef, es, eo, bench_as))
 
-    pub falls : (s' : List Float) (o' : List ℕ) → length o ≡ n → all_finite (take (n * n + 2 * n) s) ≡ false
-        → s' ≡ zeros (n * n + 4 * n) ++ drop (n * n + 4 * n) s → o' ≡ count_from n 0 ++ drop n (o ++ drop n order)
-        → outcome false seen m n s' o' (b ++ drop (m * n + m) bench) ≡ factor_worked m n (take (m * n) bench) (drop (m * n) bench) store order bench
+    pub falls : (s' : List Float) (o' : List ℕ) (b' : List Float) → length f.order ≡ n → all_finite (take (n * n + 2 * n) s) ≡ false
+        → s' ≡ zeros (n * n + 4 * n) ++ drop (n * n + 4 * n) s → o' ≡ count_from n 0 ++ drop n o → b' ≡ b
+        → outcome (Err refusal.Overflow) m n s' o' b' ≡ factor_worked m n (take (m * n) bench) (drop (m * n) bench) store order bench
     unfolding factor_worked
-    falls s' o' lo t es' eo' =
+    falls s' o' b' lo t es' eo' eb' =
         let g = sym finite_laid ∙ ap (λ (x : List Float). all_finite (take (n * n + 2 * n) x)) (sym es) ∙ t in
         let l : length (zeros (n * n + 4 * n)) ≡ n * n + 4 * n = length-replicate (n * n + 4 * n) plus_zero in
         let d : drop (n * n + 4 * n) s ≡ drop (n * n + 4 * n) store = ap (drop (n * n + 4 * n)) es ∙ laid_rest in
-        rw (g, factor_worked) (rw (es', eo', d, drop_at o (drop n order) n lo, bench_as, l))
+        let i : drop n o ≡ drop n order = ap (drop n) eo ∙ drop_at f.order (drop n order) n lo in
+        rw (g, factor_worked) (rw (es', eo', eb', d, i, bench_as, l))
 
 -- ---- what a reduction hands over
 
@@ -144,8 +135,8 @@ module _ (m n : ℕ) (store : List Float) (order : List ℕ) where
       let r = factored_room m n (map norm cols) f (drop (store_need n) store) in
       let b = zeros (bench_need m n) ++ left in
       elim (finite_room r) [
-        | true ↦ outcome true (ranges_of (measured m n cols rhs)) m n (lay r) (f.order ++ drop n order) b
-        | false ↦ outcome false (ranges_of (measured m n cols rhs)) m n (written (zeros (store_need n)) store) (count_from n 0 ++ drop n order) b
+        | true ↦ outcome (Ok (ranges_of (measured m n cols rhs))) m n (lay r) (f.order ++ drop n order) b
+        | false ↦ outcome (Err refusal.Overflow) m n (written (zeros (store_need n)) store) (count_from n 0 ++ drop n order) b
       ]
 
   worked_of_lem : (jac res bench : List Float) → factor_worked m n jac res store order bench ≡ worked_of (columns m n jac) (take m res) (drop (length (zeros (bench_need m n))) bench)

@@ -10,7 +10,6 @@ pub mod Tests
 pub mod Solve
 pub mod Held
 pub mod Outcome
-pub mod Answers
 pub mod State
 pub mod Room
 -- What the demands say of it.

@@ -2,3 +2,4 @@
 pub mod Rooms
 pub mod Worked
 pub mod Opened
+pub mod Going

@@ -1,45 +1,30 @@
 // Document 01, 'Refusal numbers, tested in this order': the tests that calls share, here and in the crates above, on numbers and lengths:
-// what is held, the sizes, how long slices are. Each answers the number of the first test that fails, 0 for none. They take the parts of a
+// what is held, the sizes, how long slices are. Each refuses by the first test that fails. They take the parts of a
 // state and no `State`, since what takes a state is a call (docs/DECISIONS.md, D70).
 ghost use Rattle.std.specs.Prelude.{◌≡◌, ◌≤◌, false, length, replicate};
+ghost use Rattle.leaves.specs.Reply.{failed_by};
 ghost use Rattle.leaves.specs.Tests.{first_of};
 ghost use Rattle.factor.specs.State.{is_empty, is_nothing, state_of};
 ghost use Rattle.factor.specs.Tests.{size_tests, room_tests, permutation_tests, is_permutation, solve_tests};
 ghost use Rattle.factor.specs.Factoring.{factor_tests};
 
 use crate::state::Held;
-use leaves::sizes::{least, outside};
+use leaves::reply::Refusal;
+use leaves::sizes::{filled, least, outside};
 use leaves::vector::all_finite;
 
 // Whether there is no problem. Refuses nothing.
 pub fn is_empty(h: Held) -> bool
     ensures { result ≡ is_empty h }
 {
-    match h {
-        Held::Empty => true,
-        Held::Nothing => false,
-        Held::Zero => false,
-        Held::Damped => false,
-    }
+    matches!(h, Held::Empty)
 }
 
 // Whether no solve is held. Refuses nothing.
 pub fn is_nothing(h: Held) -> bool
     ensures { result ≡ is_nothing h }
 {
-    match h {
-        Held::Empty => false,
-        Held::Nothing => true,
-        Held::Zero => false,
-        Held::Damped => false,
-    }
-}
-
-// Its own function, so that a proof sees one list and not sixteen cells.
-fn unmarked() -> [bool; 16]
-    ensures { result ≡ replicate 16 false }
-{
-    [false; 16]
+    matches!(h, Held::Nothing)
 }
 
 // Test 4, by a mark for each number that was met.
@@ -48,10 +33,8 @@ fn is_permutation(order: &[usize], n: usize) -> bool
     requires n_in_bounds { n ≤ length order.now }
     ensures { result ≡ is_permutation n order.now }
 {
-    let mut met = unmarked();
-    let mut k = 0;
-    while k < n {
-        let o = order[k];
+    let mut met: [bool; 16] = filled(false);
+    for &o in &order[..n] {
         if n <= o {
             return false;
         }
@@ -59,7 +42,6 @@ fn is_permutation(order: &[usize], n: usize) -> bool
             return false;
         }
         met[o] = true;
-        k += 1;
     }
     true
 }
@@ -67,42 +49,50 @@ fn is_permutation(order: &[usize], n: usize) -> bool
 // Whether an order list is one.
 //
 // n: the number of columns. order: its first n are read.
-// Answers 2 for n outside 1 to 16, 3 for fewer than n places, 4 where the first n are no permutation of 0 to n − 1, else 0.
-pub fn permutation(n: usize, order: &[usize]) -> u8
-    ensures { result ≡ first_of (permutation_tests n order.now) }
+// Refused 2 for n outside 1 to 16, 3 for fewer than n places, 4 where the first n are no permutation of 0 to n − 1.
+pub fn permutation(n: usize, order: &[usize]) -> Result<(), Refusal>
+    ensures { failed_by result ≡ first_of (permutation_tests n order.now) }
 {
     if outside(1, n) {
-        return 2;
+        return Err(Refusal::Sizes);
     }
     if order.len() < n {
-        return 3;
+        return Err(Refusal::Length);
     }
-    if is_permutation(order, n) { 0 } else { 4 }
+    if is_permutation(order, n) {
+        Ok(())
+    } else {
+        Err(Refusal::Order)
+    }
 }
 
 // What every working on lent numbers tests: its sizes, and two lengths.
-pub(crate) fn sizes(m: usize, n: usize, store: usize, shortest: usize) -> u8
-    ensures { result ≡ first_of (size_tests m n store shortest) }
+pub(crate) fn sizes(m: usize, n: usize, store: usize, shortest: usize) -> Result<(), Refusal>
+    ensures { failed_by result ≡ first_of (size_tests m n store shortest) }
 {
     if outside(m, n) {
-        return 2;
+        return Err(Refusal::Sizes);
     }
     if store < n * n + 4 * n {
-        return 3;
+        return Err(Refusal::Length);
     }
-    if shortest < n { 3 } else { 0 }
+    if shortest < n {
+        Err(Refusal::Length)
+    } else {
+        Ok(())
+    }
 }
 
 // What every call with a state tests first.
 //
 // held, m, n: the state's parts. store: how long the lent store is. shortest: the least length of the slices that hold a number for each
 // column; n where there is none.
-// Answers 5 for an empty state, before its sizes are read; then 2 for the sizes, 3 for a store or a slice that is too short; else 0.
-pub fn room(held: Held, m: usize, n: usize, store: usize, shortest: usize) -> u8
-    ensures { result ≡ first_of (room_tests (state_of m n held) store shortest) }
+// Refused 5 for an empty state, before its sizes are read; then 2 for the sizes, 3 for a store or a slice that is too short.
+pub fn room(held: Held, m: usize, n: usize, store: usize, shortest: usize) -> Result<(), Refusal>
+    ensures { failed_by result ≡ first_of (room_tests (state_of m n held) store shortest) }
 {
     if is_empty(held) {
-        return 5;
+        return Err(Refusal::NotHeld);
     }
     sizes(m, n, store, shortest)
 }
@@ -110,15 +100,23 @@ pub fn room(held: Held, m: usize, n: usize, store: usize, shortest: usize) -> u8
 // The same for a call with an order list, which is one of the slices.
 //
 // As `room`; order: its first n are read.
-// Answers as `room`, then 4 where the order list is no permutation; else 0.
-pub fn ordered(held: Held, m: usize, n: usize, store: usize, shortest: usize, order: &[usize]) -> u8
-    ensures { result ≡ first_of (solve_tests (state_of m n held) store order.now shortest) }
+// Refused as `room`, then 4 where the order list is no permutation.
+pub fn ordered(
+    held: Held,
+    m: usize,
+    n: usize,
+    store: usize,
+    shortest: usize,
+    order: &[usize],
+) -> Result<(), Refusal>
+    ensures { failed_by result ≡ first_of (solve_tests (state_of m n held) store order.now shortest) }
 {
-    let c = room(held, m, n, store, least(order.len(), shortest));
-    if c != 0 {
-        return c;
+    room(held, m, n, store, least(order.len(), shortest))?;
+    if is_permutation(order, n) {
+        Ok(())
+    } else {
+        Err(Refusal::Order)
     }
-    if is_permutation(order, n) { 0 } else { 4 }
 }
 
 // What factoring tests. It reads no old order list.
@@ -130,30 +128,34 @@ pub(crate) fn check_factor(
     store: usize,
     order: usize,
     bench: usize,
-) -> u8
-    ensures { result ≡ first_of (factor_tests m n jacobian.now residuals.now store order bench) }
+) -> Result<(), Refusal>
+    ensures { failed_by result ≡ first_of (factor_tests m n jacobian.now residuals.now store order bench) }
 {
     if outside(m, n) {
-        return 2;
+        return Err(Refusal::Sizes);
     }
     let mn = m * n;
     if jacobian.len() < mn {
-        return 3;
+        return Err(Refusal::Length);
     }
     if residuals.len() < m {
-        return 3;
+        return Err(Refusal::Length);
     }
     if store < n * n + 4 * n {
-        return 3;
+        return Err(Refusal::Length);
     }
     if order < n {
-        return 3;
+        return Err(Refusal::Length);
     }
     if bench < mn + m {
-        return 3;
+        return Err(Refusal::Length);
     }
     if !all_finite(&jacobian[..mn]) {
-        return 6;
+        return Err(Refusal::NotFinite);
     }
-    if all_finite(&residuals[..m]) { 0 } else { 6 }
+    if all_finite(&residuals[..m]) {
+        Ok(())
+    } else {
+        Err(Refusal::NotFinite)
+    }
 }

@@ -2,22 +2,24 @@
 // there, and tell what is left of it by marks that this crate has not: so it is a working on numbers that are lent, sizes and slices, and no
 // state (docs/DECISIONS.md, D14 and D70). Test 6 is its caller's.
 ghost use Rattle.std.specs.Prelude.{◌≡◌};
-ghost use Rattle.leaves.specs.Reply.{ranged_of};
+ghost use Rattle.leaves.specs.Reply.{reply_of, failed_by};
 ghost use Rattle.leaves.specs.Tests.{first_of};
 ghost use Rattle.factor.specs.Filled.{filled_tests, filled_as, factor_filled};
 
 use crate::check::sizes;
-use crate::factor::filled_working;
-use leaves::reply::Ranged;
+use crate::store::PivotedQR;
+use leaves::norm::Ranges;
+use leaves::reply::Refusal;
 
-fn check_filled(m: usize, n: usize, store: usize, order: usize, bench: usize) -> u8
-    ensures { result ≡ first_of (filled_tests m n store order bench) }
+fn check_filled(m: usize, n: usize, store: usize, order: usize, bench: usize) -> Result<(), Refusal>
+    ensures { failed_by result ≡ first_of (filled_tests m n store order bench) }
 {
-    let c = sizes(m, n, store, order);
-    if c != 0 {
-        return c;
+    sizes(m, n, store, order)?;
+    if bench < m * n + m {
+        Err(Refusal::Length)
+    } else {
+        Ok(())
     }
-    if bench < m * n + m { 3 } else { 0 }
 }
 
 // Factors what stands in the bench, with column pivoting, and transforms the residuals there.
@@ -35,17 +37,16 @@ pub fn factor_filled(
     store: &mut [f64],
     order: &mut [usize],
     bench: &mut [f64],
-) -> Ranged
-    ensures { filled_as (ranged_of result) store.new order.new bench.new ≡ factor_filled m n store.old order.old bench.old }
+) -> Result<Ranges, Refusal>
+    ensures { filled_as (reply_of result) store.new order.new bench.new ≡ factor_filled m n store.old order.old bench.old }
 {
-    let c = check_filled(m, n, store.len(), order.len(), bench.len());
-    if c != 0 {
-        return Ranged::Refused(c);
-    }
-    let w = filled_working(m, n, store, order, bench);
-    let seen = w.seen;
-    if w.finite {
-        return Ranged::Seen(seen);
-    }
-    Ranged::Refused(8)
+    check_filled(m, n, store.len(), order.len(), bench.len())?;
+    let mut qr = PivotedQR {
+        m,
+        n,
+        store,
+        order,
+        bench,
+    };
+    qr.filled_working()
 }

@@ -2,10 +2,10 @@
 ghost use Rattle.std.specs.Prelude.{◌≡◌, [], ◌++◌, suc, ◌+◌, ◌-◌, ◌*◌, ◌<◌, ◌≤◌, length, get_or, take};
 ghost use Rattle.leaves.specs.Square.{joined, zeros};
 ghost use Rattle.factor.specs.Factoring.{upper_column, uppers, no_lower, transformed};
-ghost use Rattle.reduce.specs.inner.Bench.{grid, Benched};
+ghost use Rattle.reduce.specs.inner.Bench.{grid};
 ghost use Rattle.leaves.specs.inner.Patch.{patch};
 
-use crate::wrap::copy_of;
+use crate::store::Bench;
 use leaves::sizes::least;
 
 // Where column k stands, where columns are m apart.
@@ -26,7 +26,7 @@ fn lay_front(top: usize, col: &[f64], out: &mut [f64])
     ensures { out.new ≡ take top col.now ++ zeros (length out.old - top) }
 {
     let e = out.len();
-    copy_of(&col[..top], &mut out[..top]);
+    out[..top].copy_from_slice(&col[..top]);
     leaves::vector::fill(0.0, &mut out[top..e]);
 }
 
@@ -44,32 +44,6 @@ fn lay_in(k: usize, d: f64, col: &[f64], out: &mut [f64])
     out[k] = d;
 }
 
-fn lay_column(m: usize, n: usize, k: usize, d: f64, bench: &[f64], square: &mut [f64])
-    requires benched { Benched m n bench.now }
-    requires k_lt_n { k < n }
-    requires square_len { length square.old ≡ n * n }
-    ensures { square.new ≡ patch (k * n) n square.old (upper_column m k (get_or (grid m n bench.now) k []) d ++ zeros (n - suc k)) }
-{
-    let a = column_at(m, n, k);
-    let e = a + m;
-    let from = column_at(n, n, k);
-    let to = from + n;
-    lay_in(k, d, &bench[a..e], &mut square[from..to]);
-}
-
-pub(crate) fn lay_out(m: usize, n: usize, bench: &[f64], diag: &[f64], square: &mut [f64])
-    requires benched { Benched m n bench.now }
-    requires diag_len { length diag.now ≡ n }
-    requires square_len { length square.old ≡ n * n }
-    ensures { square.new ≡ joined (uppers m 0 (take n (grid m n bench.now)) diag.now) (no_lower n) }
-{
-    let mut k = 0;
-    while k < n {
-        lay_column(m, n, k, diag[k], bench, square);
-        k += 1;
-    }
-}
-
 // Places of qt_b from m on are 0.
 fn lay_rhs(col: &[f64], qtb: &mut [f64])
     ensures { qtb.new ≡ transformed (length qtb.old) col.now }
@@ -78,12 +52,43 @@ fn lay_rhs(col: &[f64], qtb: &mut [f64])
     lay_front(top, col, qtb);
 }
 
-pub(crate) fn take_rhs(m: usize, n: usize, bench: &[f64], qtb: &mut [f64])
-    requires benched { Benched m n bench.now }
-    requires qtb_len { length qtb.old ≡ n }
-    ensures { qtb.new ≡ transformed n (get_or (grid m n bench.now) n []) }
-{
-    let a = column_at(m, n, n);
-    let e = a + m;
-    lay_rhs(&bench[a..e], qtb);
+impl<'a> Bench<'a> {
+    // Column k; the residuals are column n.
+    fn column(self, k: usize) -> &'a [f64]
+        requires { k ≤ self.n }
+        ensures value { result.now ≡ get_or (grid self.entry.m self.entry.n self.entry.cells.now) k [] }
+        ensures len { length result.now ≡ self.entry.m }
+    {
+        let a = column_at(self.m, self.n, k);
+        let e = a + self.m;
+        &self.cells[a..e]
+    }
+
+    fn lay_column(self, k: usize, d: f64, square: &mut [f64])
+        requires k_lt_n { k < self.n }
+        requires square_len { length square.old ≡ self.n * self.n }
+        ensures { square.new ≡ patch (k * self.entry.n) self.entry.n square.old (upper_column self.entry.m k (get_or (grid self.entry.m self.entry.n self.entry.cells.now) k []) d ++ zeros (self.entry.n - suc k)) }
+    {
+        let n = self.n;
+        let from = column_at(n, n, k);
+        let to = from + n;
+        lay_in(k, d, self.column(k), &mut square[from..to]);
+    }
+
+    pub(crate) fn lay_out(self, diag: &[f64], square: &mut [f64])
+        requires diag_len { length diag.now ≡ self.n }
+        requires square_len { length square.old ≡ self.n * self.n }
+        ensures { square.new ≡ joined (uppers self.entry.m 0 (take self.entry.n (grid self.entry.m self.entry.n self.entry.cells.now)) diag.now) (no_lower self.entry.n) }
+    {
+        for (k, d) in diag.iter().enumerate() {
+            self.lay_column(k, *d, square);
+        }
+    }
+
+    pub(crate) fn take_rhs(self, qtb: &mut [f64])
+        requires { length qtb.old ≡ self.n }
+        ensures { qtb.new ≡ transformed self.entry.n (get_or (grid self.entry.m self.entry.n self.entry.cells.now) self.entry.n []) }
+    {
+        lay_rhs(self.column(self.n), qtb);
+    }
 }

@@ -1,7 +1,6 @@
 // Modules 2 to 5 of document 01: state, rooms and tests; factoring, the solves, the held calls; and the workings that a search asks for.
 #![tactic(auto)]
 
-pub mod answer;
 pub mod check;
 pub mod cholesky;
 mod factor;
@@ -16,4 +15,4 @@ pub mod pivoted_qr;
 mod room;
 mod solve;
 pub mod state;
-mod wrap;
+mod store;

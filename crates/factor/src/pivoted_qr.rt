@@ -1,12 +1,13 @@
 // Document 01, modules 2 and 3: `PivotedQR::new` with `into_least_squares_diagonal_problem`.
 ghost use Rattle.std.specs.Prelude.{◌≡◌};
-ghost use Rattle.leaves.specs.Reply.{ranged_of};
+ghost use Rattle.leaves.specs.Reply.{reply_of};
 ghost use Rattle.factor.specs.Factoring.{factored, factor_call};
 
 use crate::check::check_factor;
-use crate::factor::factor_working;
-use crate::state::{FactorTold, Held, State};
-use leaves::reply::Ranged;
+use crate::state::{Held, State, empty};
+use crate::store::PivotedQR;
+use leaves::norm::Ranges;
+use leaves::reply::Told;
 
 // Factors a Jacobian with column pivoting and transforms its residuals.
 //
@@ -25,10 +26,10 @@ pub fn pivoted_qr(
     store: &mut [f64],
     order: &mut [usize],
     bench: &mut [f64],
-) -> FactorTold
-    ensures { factored (ranged_of result.answer) result.state store.new order.new bench.new ≡ factor_call m n jacobian.now residuals.now store.old order.old bench.old }
+) -> Told<Ranges, State>
+    ensures { factored (reply_of result.answer) result.state store.new order.new bench.new ≡ factor_call m n jacobian.now residuals.now store.old order.old bench.old }
 {
-    let c = check_factor(
+    if let Err(no) = check_factor(
         m,
         n,
         jacobian,
@@ -36,35 +37,28 @@ pub fn pivoted_qr(
         store.len(),
         order.len(),
         bench.len(),
-    );
-    if c != 0 {
-        return FactorTold {
-            answer: Ranged::Refused(c),
-            state: State {
-                m: 0,
-                n: 0,
-                held: Held::Empty,
-            },
+    ) {
+        return Told {
+            answer: Err(no),
+            state: empty(),
         };
     }
-    let w = factor_working(m, n, jacobian, residuals, store, order, bench);
-    let seen = w.seen;
-    if w.finite {
-        return FactorTold {
-            answer: Ranged::Seen(seen),
-            state: State {
-                m: m,
-                n: n,
-                held: Held::Nothing,
-            },
-        };
-    }
-    FactorTold {
-        answer: Ranged::Refused(8),
-        state: State {
-            m: 0,
-            n: 0,
-            held: Held::Empty,
-        },
-    }
+    let mut qr = PivotedQR {
+        m,
+        n,
+        store,
+        order,
+        bench,
+    };
+    let answer = qr.factor_working(jacobian, residuals);
+    let state = if answer.is_ok() {
+        State {
+            m,
+            n,
+            held: Held::Nothing,
+        }
+    } else {
+        empty()
+    };
+    Told { answer, state }
 }

@@ -3,8 +3,11 @@
 ghost use Rattle.std.specs.Prelude.{◌≡◌, suc, ◌+◌, ◌-◌, ◌*◌, ◌<◌, ◌≤◌, length, set};
 ghost use Rattle.factor.specs.Room.{part, load, lay, leaving, rested, emptied};
 ghost use Rattle.leaves.specs.Square.{uppers_of, belows_of, zeros, cleared};
-ghost use Rattle.leaves.specs.inner.Squares.{Square};
-ghost use Rattle.factor.specs.inner.Rooms.{Sized, with_part};
+ghost use Rattle.leaves.specs.inner.Squares.{Square as IsSquare};
+ghost use Rattle.factor.specs.inner.Rooms.{with_part};
+
+use crate::store::{LinearLeastSquaresDiagonalProblem, Lower, Store};
+use leaves::lent::Square;
 
 // Where part k of the four behind the square starts, where columns stand `apart` places apart.
 pub(crate) fn part_at(apart: usize, n: usize, k: usize) -> usize
@@ -14,49 +17,92 @@ pub(crate) fn part_at(apart: usize, n: usize, k: usize) -> usize
     apart * apart + k * n
 }
 
-pub(crate) fn copy_part(store: &[f64], n: usize, k: usize, w: &mut [f64])
-    requires sized { Sized n store.now }
-    requires k_bound { (k < 4) × (length w.old ≡ n) }
-    ensures { w.new ≡ part n k store.now }
+// ---- a store that is only read
+
+// R, with what stands below it.
+pub(crate) fn square_of(store: Store) -> Square
+    ensures n { result.n ≡ store.entry.n }
+    ensures upper { uppers_of result.n result.cells.now ≡ (load store.entry.n store.entry.cells.now).upper }
+    ensures below { belows_of result.n result.cells.now ≡ (load store.entry.n store.entry.cells.now).below }
 {
-    let a = part_at(n, n, k);
-    let e = a + n;
-    leaves::vector::copy(&store[a..e], w);
+    let n = store.n;
+    let nn = n * n;
+    Square {
+        n,
+        cells: &store.cells[..nn],
+    }
 }
 
-pub(crate) fn put_part(store: &mut [f64], n: usize, k: usize, w: &[f64])
-    requires sized { Sized n store.old }
-    requires k_bound { (k < 4) × (length w.now ≡ n) }
-    ensures { load n store.new ≡ with_part k w.now (load n store.old) }
+pub(crate) fn part_of(store: Store, k: usize) -> &[f64]
+    requires { k < 4 }
+    ensures value { result.now ≡ part store.entry.n k store.entry.cells.now }
+    ensures len { length result.now ≡ store.entry.n }
 {
+    let n = store.n;
     let a = part_at(n, n, k);
     let e = a + n;
-    leaves::vector::copy(w, &mut store[a..e]);
+    &store.cells[a..e]
 }
 
-pub(crate) fn clear_part(store: &mut [f64], n: usize, k: usize)
-    requires sized { Sized n store.old }
-    requires k_bound { k < 4 }
-    ensures { load n store.new ≡ with_part k (zeros n) (load n store.old) }
+// L by columns, as a damped solve left it.
+pub(crate) fn lower_of(store: Store) -> Lower<'_, '_>
+    ensures n { result.square.n ≡ store.entry.n }
+    ensures below { belows_of result.square.n result.square.cells.now ≡ (load store.entry.n store.entry.cells.now).below }
+    ensures ldiag { result.ldiag.now ≡ (load store.entry.n store.entry.cells.now).ldiag }
 {
+    let square = square_of(store);
+    let ldiag = part_of(store, 2);
+    Lower { square, ldiag }
+}
+
+pub(crate) fn copy_part(store: Store, k: usize, w: &mut [f64])
+    requires { (k < 4) × (length w.old ≡ store.n) }
+    ensures { w.new ≡ part store.entry.n k store.entry.cells.now }
+{
+    w.copy_from_slice(part_of(store, k));
+}
+
+// ---- a store that is written
+
+pub(crate) fn put_part(p: &mut LinearLeastSquaresDiagonalProblem, k: usize, w: &[f64])
+    requires { (k < 4) × (length w.now ≡ p.old.n) }
+    ensures same_n { p.new.n ≡ p.old.n }
+    ensures same_cells { p.new.cells.ghost_name ≡ p.old.cells.ghost_name }
+    ensures room { load p.new.n p.new.cells.now ≡ with_part k w.now (load p.old.n p.old.cells.now) }
+{
+    let n = p.n;
     let a = part_at(n, n, k);
     let e = a + n;
-    leaves::vector::fill(0.0, &mut store[a..e]);
+    p.cells[a..e].copy_from_slice(w);
+}
+
+pub(crate) fn clear_part(p: &mut LinearLeastSquaresDiagonalProblem, k: usize)
+    requires { k < 4 }
+    ensures same_n { p.new.n ≡ p.old.n }
+    ensures same_cells { p.new.cells.ghost_name ≡ p.old.cells.ghost_name }
+    ensures room { load p.new.n p.new.cells.now ≡ with_part k (zeros p.old.n) (load p.old.n p.old.cells.now) }
+{
+    let n = p.n;
+    let a = part_at(n, n, k);
+    let e = a + n;
+    leaves::vector::fill(0.0, &mut p.cells[a..e]);
 }
 
 // l_diag and work stand side by side.
-fn clear_last(store: &mut [f64], n: usize)
-    requires { Sized n store.old }
-    ensures { load n store.new ≡ with_part 3 (zeros n) (with_part 2 (zeros n) (load n store.old)) }
+fn clear_last(p: &mut LinearLeastSquaresDiagonalProblem)
+    ensures same_n { p.new.n ≡ p.old.n }
+    ensures same_cells { p.new.cells.ghost_name ≡ p.old.cells.ghost_name }
+    ensures room { load p.new.n p.new.cells.now ≡ with_part 3 (zeros p.old.n) (with_part 2 (zeros p.old.n) (load p.old.n p.old.cells.now)) }
 {
+    let n = p.n;
     let a = part_at(n, n, 2);
     let e = a + 2 * n;
-    leaves::vector::fill(0.0, &mut store[a..e]);
+    leaves::vector::fill(0.0, &mut p.cells[a..e]);
 }
 
 // What stands below R's diagonal in column k.
 fn clear_column(square: &mut [f64], n: usize, k: usize)
-    requires square { Square n square.old }
+    requires square { IsSquare n square.old }
     requires k_lt_n { k < n }
     ensures square_unchanged { uppers_of n square.new ≡ uppers_of n square.old }
     ensures square_after { belows_of n square.new ≡ set (belows_of n square.old) k (zeros (n - suc k)) }
@@ -67,7 +113,7 @@ fn clear_column(square: &mut [f64], n: usize, k: usize)
 }
 
 pub(crate) fn clear_below(square: &mut [f64], n: usize)
-    requires { Square n square.old }
+    requires { IsSquare n square.old }
     ensures square_unchanged { uppers_of n square.new ≡ uppers_of n square.old }
     ensures square_after { belows_of n square.new ≡ cleared (belows_of n square.old) }
 {
@@ -77,29 +123,33 @@ pub(crate) fn clear_below(square: &mut [f64], n: usize)
 }
 
 // After a call that passed its checks and is no solve: work is +0.
-pub(crate) fn rest_room(store: &mut [f64], n: usize)
-    requires { Sized n store.old }
-    ensures { store.new ≡ lay (rested (load n store.old)) }
+pub(crate) fn rest_room(p: &mut LinearLeastSquaresDiagonalProblem)
+    ensures same_n { p.new.n ≡ p.old.n }
+    ensures same_cells { p.new.cells.ghost_name ≡ p.old.cells.ghost_name }
+    ensures cells { p.new.cells.now ≡ lay (rested (load p.old.n p.old.cells.now)) }
 {
-    clear_part(store, n, 3);
+    clear_part(p, 3);
 }
 
 // After a zero solve, and after a solve or a search that was refused 8: strict lower part, l_diag and work are +0.
-pub(crate) fn empty_room(store: &mut [f64], n: usize)
-    requires { Sized n store.old }
-    ensures { store.new ≡ lay (emptied (load n store.old)) }
+pub(crate) fn empty_room(p: &mut LinearLeastSquaresDiagonalProblem)
+    ensures same_n { p.new.n ≡ p.old.n }
+    ensures same_cells { p.new.cells.ghost_name ≡ p.old.cells.ghost_name }
+    ensures cells { p.new.cells.now ≡ lay (emptied (load p.old.n p.old.cells.now)) }
 {
+    let n = p.n;
     let whole = n * n;
-    clear_below(&mut store[..whole], n);
-    clear_last(store, n);
+    clear_below(&mut p.cells[..whole], n);
+    clear_last(p);
 }
 
 // After a damped solve, whose elimination left L below the diagonal: L's diagonal is written, and work is +0.
-pub(crate) fn put_damped(store: &mut [f64], n: usize, ldiag: &[f64])
-    requires sized { Sized n store.old }
-    requires ldiag_len { length ldiag.now ≡ n }
-    ensures { store.new ≡ lay (leaving (load n store.old).below ldiag.now (load n store.old)) }
+pub(crate) fn put_damped(p: &mut LinearLeastSquaresDiagonalProblem, ldiag: &[f64])
+    requires { length ldiag.now ≡ p.old.n }
+    ensures same_n { p.new.n ≡ p.old.n }
+    ensures same_cells { p.new.cells.ghost_name ≡ p.old.cells.ghost_name }
+    ensures cells { p.new.cells.now ≡ lay (leaving (load p.old.n p.old.cells.now).below ldiag.now (load p.old.n p.old.cells.now)) }
 {
-    put_part(store, n, 2, ldiag);
-    clear_part(store, n, 3);
+    put_part(p, 2, ldiag);
+    clear_part(p, 3);
 }

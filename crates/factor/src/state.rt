@@ -1,11 +1,9 @@
-// Document 01, 'Lent room and what stays in it': the state, and what calls answer.
+// Document 01, 'Lent room and what stays in it': the state.
 ghost use Rattle.std.specs.Prelude.{◌≡◌};
-ghost use Rattle.factor.specs.State.{with_held};
-
-use leaves::reply::{Done, Ranged};
+ghost use Rattle.factor.specs.State.{empty, with_held};
 
 // What a store holds below its diagonal and in l_diag.
-#[derive(Clone, Copy)]
+#[derive(Clone, Copy, Debug, PartialEq, Eq)]
 pub enum Held {
     Empty,
     Nothing,
@@ -20,27 +18,19 @@ pub struct State {
     pub held: Held,
 }
 
-// What a call without a number of its own answers, and the state that it hands back.
-#[derive(Clone, Copy)]
-pub struct Told {
-    pub answer: Done,
-    pub state: State,
-}
-
-// What a factoring answers: the ranges that took part in its norms (02, #106).
-#[derive(Clone, Copy)]
-pub struct FactorTold {
-    pub answer: Ranged,
-    pub state: State,
+pub(crate) fn empty() -> State
+    ensures { result ≡ empty }
+{
+    State {
+        m: 0,
+        n: 0,
+        held: Held::Empty,
+    }
 }
 
 // The same problem, with something else held.
 pub(crate) fn with_held(st: State, held: Held) -> State
     ensures { result ≡ with_held st held }
 {
-    State {
-        m: st.m,
-        n: st.n,
-        held: held,
-    }
+    State { held, ..st }
 }

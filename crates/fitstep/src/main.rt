@@ -8,25 +8,14 @@
 // reach standard output. A write that fails is passed over.
 #![tactic(auto)]
 
-ghost use Rattle.std.specs.Prelude.{◌≡◌, ◌≤◌, length};
+ghost use Rattle.std.specs.Prelude.{◌≤◌, length};
 
-use leaves::reply::Place;
+use leaves::sizes::filled;
 use lines::part::within;
 use std::io::{Read, Stdin, Stdout};
 
-fn sheet_room() -> [u8; 17556]
-    ensures { 17556 ≡ length result }
-{
-    [0; 17556]
-}
-
-fn text_room() -> [u8; 1024]
-    ensures { 1024 ≡ length result }
-{
-    [0; 1024]
-}
-
-// Reads until buf is full, the input ends or a read fails, and answers how many bytes came.
+// Reads until buf is full, the input ends or a read fails, and answers how many bytes came. A `while`: done grows by what each read brought,
+// and is no index. In two programs, since nothing can promise what comes from standard input, and what is public promises its answer.
 fn full(mut input: Stdin, buf: &mut [u8]) -> usize
     ensures { result ≤ length buf.new }
 {
@@ -48,12 +37,9 @@ fn show(screen: Stdout, text: &[u8], n: usize) {
 }
 
 fn main(rt: HostRuntime) {
-    let mut room = sheet_room();
-    let mut text = text_room();
+    let mut room: [u8; 17556] = filled(0);
+    let mut text: [u8; 1024] = filled(0);
     let n = full(rt.stdin(), &mut room);
-    let p = sheet::lines::fit_lines(&room[..n], &mut text);
-    match p {
-        Place::At(k) => show(rt.stdout(), &text, k),
-        Place::Refused(_) => show(rt.stdout(), &text, 0),
-    }
+    let k = sheet::lines::fit_lines(&room[..n], &mut text).unwrap_or(0);
+    show(rt.stdout(), &text, k);
 }

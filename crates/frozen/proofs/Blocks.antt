@@ -6,7 +6,7 @@ use mathlib.Core.List.{List, [], ◌∷◌, ◌++◌, append_assoc}
 use native.Mathlib.Nat.{mul-suc, mul-zero, suc-mul, mul-le-mul, le_refl}
 use native.Mathlib.Omega.{arith}
 use lib.ListN.{length, take, drop, length-append, length-drop}
-use lib.Seq.{drop-drop, length-take-le, take_all, take_at}
+use lib.Seq.{length-take-le, take_all, take_at}
 use lib.Ieee.{Float}
 use borrow.Author.Tests.{le-leb, lt-leb, lt-ltb, le-ltb}
 use Rattle.leaves.proofs.Overs.{append_nil}
@@ -14,35 +14,32 @@ use Rattle.leaves.specs.Reply.{answered, refused}
 use Rattle.leaves.specs.Tests.{outside}
 use Rattle.frozen.specs.Frozen.{is_set, next_of, marks_of, free_count, free_columns}
 use Rattle.frozen.specs.Moved.{columns_call}
+use Rattle.frozen.proofs.Runs.{after_parts}
+use Rattle.frozen.proofs.Turns.{after}
 
 -- room for a free column among the free ones
-pub column_counted : (m left x : ℕ) → 0 < left → x < 32768 → m * free_count (marks_of left x) ≡ m + m * free_count (marks_of (left - 1) (next_of x))
-unfolding marks_of free_count
-column_counted m zero x p h = absurd (omega arith)
-column_counted m (suc l) x p h =
-    let e : suc l - 1 ≡ l = omega arith in
-    rw (e, lt-leb 32768 x h) (mul-suc m _ ∙ omega arith)
+module _ (m n k x : ℕ) (h : k < n) where
+  pub column_counted : x < 32768 → m * free_count (marks_of (n - k) x) ≡ m + m * free_count (marks_of (n - (k + 1)) (next_of x))
+  unfolding marks_of free_count
+  column_counted f = rw (after n k h, lt-leb 32768 x f) (mul-suc m _ ∙ omega arith)
 
-pub column_skipped : (m left x : ℕ) → 0 < left → 32768 ≤ x → m * free_count (marks_of left x) ≡ m * free_count (marks_of (left - 1) (next_of x))
-unfolding marks_of free_count
-column_skipped m zero x p h = absurd (omega arith)
-column_skipped m (suc l) x p h = let e : suc l - 1 ≡ l = omega arith in rw (e, le-leb 32768 x h) refl
+  pub column_skipped : 32768 ≤ x → m * free_count (marks_of (n - k) x) ≡ m * free_count (marks_of (n - (k + 1)) (next_of x))
+  unfolding marks_of free_count
+  column_skipped f = rw (after n k h, le-leb 32768 x f) refl
 
-pub column_copied : (m left x a b : ℕ) (src dst y rest : List Float) → 0 < left → x < 32768 → b ≤ length dst → length y ≡ m → y ≡ take m (drop a src)
-    → take (b + m) (take b dst ++ (y ++ rest)) ++ free_columns m (marks_of (left - 1) (next_of x)) (drop (a + m) src) ≡ take b dst ++ free_columns m (marks_of left x) (drop a src)
-unfolding marks_of free_columns
-column_copied m zero x a b src dst y rest h k p l e = absurd (omega arith)
-column_copied m (suc left) x a b src dst y rest h k p l e =
-    let f : suc left - 1 ≡ left = omega arith in
-    let t : length (take b dst ++ y) ≡ b + m = let z = length-take-le b dst p in length-append (take b dst) y ∙ omega arith in
-    let u : take (b + m) (take b dst ++ (y ++ rest)) ≡ take b dst ++ y = ap (λ (s : List Float). take (b + m) s) (sym (append_assoc (take b dst) y rest)) ∙ take_at (take b dst ++ y) rest (b + m) t in
-    rw (u, f, lt-leb 32768 x k, ← drop-drop m a src, e) (append_assoc (take b dst) (take m (drop a src)) _)
+  pub column_copied : (b : ℕ) (src dst y rest : List Float) → x < 32768 → b ≤ length dst → length y ≡ m → y ≡ take m (drop (k * m) src)
+      → take (b + m) (take b dst ++ (y ++ rest)) ++ free_columns m (marks_of (n - (k + 1)) (next_of x)) (drop ((k + 1) * m) src)
+      ≡ take b dst ++ free_columns m (marks_of (n - k) x) (drop (k * m) src)
+  unfolding marks_of free_columns
+  column_copied b src dst y rest f p l e =
+      let t : length (take b dst ++ y) ≡ b + m = let z = length-take-le b dst p in length-append (take b dst) y ∙ omega arith in
+      let u : take (b + m) (take b dst ++ (y ++ rest)) ≡ take b dst ++ y = ap (λ (s : List Float). take (b + m) s) (sym (append_assoc (take b dst) y rest)) ∙ take_at (take b dst ++ y) rest (b + m) t in
+      rw (u, after n k h, after_parts m k src, lt-leb 32768 x f, e) (append_assoc (take b dst) (take m (drop (k * m) src)) _)
 
-pub column_passed : (m left x a : ℕ) (src : List Float) → 0 < left → 32768 ≤ x
-    → free_columns m (marks_of (left - 1) (next_of x)) (drop (a + m) src) ≡ free_columns m (marks_of left x) (drop a src)
-unfolding marks_of free_columns
-column_passed m zero x a src h k = absurd (omega arith)
-column_passed m (suc left) x a src h k = let f : suc left - 1 ≡ left = omega arith in rw (f, le-leb 32768 x k, ← drop-drop m a src) refl
+  pub column_passed : (src : List Float) → 32768 ≤ x
+      → free_columns m (marks_of (n - (k + 1)) (next_of x)) (drop ((k + 1) * m) src) ≡ free_columns m (marks_of (n - k) x) (drop (k * m) src)
+  unfolding marks_of free_columns
+  column_passed src f = rw (after n k h, after_parts m k src, le-leb 32768 x f) refl
 
 pub columns-end : (m left x a b : ℕ) (src dst all : List Float) → left ≤ 0 → b + m * free_count (marks_of left x) ≡ length dst
     → take b dst ++ free_columns m (marks_of left x) (drop a src) ≡ all → dst ≡ all

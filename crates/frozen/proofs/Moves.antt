@@ -12,12 +12,9 @@ use Rattle.leaves.proofs.Overs.{append_nil}
 use Rattle.leaves.specs.Reply.{answered, refused}
 use Rattle.frozen.specs.Frozen.{next_of, marks_of, free_count, free_of, merged}
 use Rattle.frozen.specs.Moved.{gather_call, merge_call}
+use Rattle.frozen.proofs.Turns.{after}
 
--- the columns after column k
 module _ (n k x : ℕ) (h : k < n) where
-  after : n - k ≡ suc (n - (k + 1))
-  after = omega arith
-
   module _ (src dst : List Float) (j : ℕ) where
     pub gather_free : x < 32768 → k < length src → j < length dst
         → take (j + 1) (set dst j (get_or src k nan)) ++ free_of (marks_of (n - (k + 1)) (next_of x)) (drop (k + 1) src) ≡ take j dst ++ free_of (marks_of (n - k) x) (drop k src)
@@ -25,12 +22,12 @@ module _ (n k x : ℕ) (h : k < n) where
     gather_free f p q =
         let v = get_or src k nan in
         let t : take (j + 1) (set dst j v) ≡ take j dst ++ (v ∷ []) = rw add-one (take-suc-set dst j v q) in
-        rw (t, after, drop-cons src k nan p, lt-leb 32768 x f, add-one) (append_snoc (take j dst) v _)
+        rw (t, after n k h, drop-cons src k nan p, lt-leb 32768 x f, add-one) (append_snoc (take j dst) v _)
 
     pub gather_frozen : 32768 ≤ x → k < length src
         → take j dst ++ free_of (marks_of (n - (k + 1)) (next_of x)) (drop (k + 1) src) ≡ take j dst ++ free_of (marks_of (n - k) x) (drop k src)
     unfolding marks_of free_of
-    gather_frozen f p = rw (after, drop-cons src k nan p, le-leb 32768 x f, add-one) refl
+    gather_frozen f p = rw (after n k h, drop-cons src k nan p, le-leb 32768 x f, add-one) refl
 
     pub merge_free : x < 32768 → k < length dst → j < length src
         → take (k + 1) (set dst k (get_or src j nan)) ++ merged (marks_of (n - (k + 1)) (next_of x)) (drop (k + 1) (set dst k (get_or src j nan))) (drop (j + 1) src)
@@ -41,7 +38,7 @@ module _ (n k x : ℕ) (h : k < n) where
         let t : take (k + 1) (set dst k v) ≡ take k dst ++ (v ∷ []) = rw add-one (take-suc-set dst k v p) in
         let d : drop (k + 1) (set dst k v) ≡ drop (k + 1) dst = drop-set-lt (k + 1) dst k v (omega arith) in
         let s : drop (j + 1) src ≡ drop (suc j) src = rw add-one refl in
-        rw (t, d, s, after, drop-cons dst k nan p, drop-cons src j nan q, lt-leb 32768 x f, add-one)
+        rw (t, d, s, after n k h, drop-cons dst k nan p, drop-cons src j nan q, lt-leb 32768 x f, add-one)
         (append_snoc (take k dst) v _)
 
     pub merge_frozen : 32768 ≤ x → k < length dst
@@ -50,7 +47,7 @@ module _ (n k x : ℕ) (h : k < n) where
     merge_frozen f p =
         let v = get_or dst k nan in
         let t : take (k + 1) dst ≡ take k dst ++ (v ∷ []) = rw add-one (take-suc dst k nan p) in
-        rw (t, after, drop-cons dst k nan p, le-leb 32768 x f, add-one) (append_snoc (take k dst) v _)
+        rw (t, after n k h, drop-cons dst k nan p, le-leb 32768 x f, add-one) (append_snoc (take k dst) v _)
 
 -- what is not yet written
 pub drop_next : (j : ℕ) (v : Float) (dst was : List Float) → drop j dst ≡ drop j was → drop (j + 1) (set dst j v) ≡ drop (j + 1) was

@@ -14,20 +14,26 @@ use Rattle.leaves.specs.Reply.{answered, refused}
 use Rattle.leaves.specs.Tests.{outside}
 use Rattle.frozen.specs.Narrowed.{runs, narrowed, narrow_call}
 
--- the first of k
-pub one_less : (k a : ℕ) → 0 < k → k * a ≡ a + (k - 1) * a
-one_less zero a h = absurd (omega arith)
-one_less (suc k) a h = let e : suc k - 1 ≡ k = omega arith in rw e (omega (arith, suc-mul k a))
+-- where the last of n ends, the one after k others ended before or ends there too
+pub one_less : (n k a : ℕ) → k < n → k * a + a ≤ n * a
+one_less n k a h = let l : (k + 1) * a ≤ n * a = mul-le-mul (let q : k + 1 ≤ n = omega arith in q) (le_refl a) in omega arith
 
-pub runs_turn : (w apart left a b : ℕ) (src dst y rest : List Float) → 0 < left → b ≤ length dst → length y ≡ w → y ≡ take w (drop a src)
-    → take (b + w) (take b dst ++ (y ++ rest)) ++ runs w apart (left - 1) (drop (a + apart) src) ≡ take b dst ++ runs w apart left (drop a src)
+-- a part of the length that it takes, written where the first k parts end
+pub part_written : (w k : ℕ) (dst y rest : List Float) → k * w ≤ length dst → length y ≡ w → take ((k + 1) * w) (take (k * w) dst ++ (y ++ rest)) ≡ take (k * w) dst ++ y
+part_written w k dst y rest h l =
+    let b = k * w in
+    let t : length (take b dst ++ y) ≡ (k + 1) * w = let z = length-take-le b dst h in length-append (take b dst) y ∙ omega arith in
+    ap (λ (s : List Float). take ((k + 1) * w) s) (sym (append_assoc (take b dst) y rest)) ∙ take_at (take b dst ++ y) rest ((k + 1) * w) t
+
+pub after_parts : (a k : ℕ) (src : List Float) → drop ((k + 1) * a) src ≡ drop a (drop (k * a) src)
+after_parts a k src = let e : (k + 1) * a ≡ k * a + a = omega arith in rw e (sym (drop-drop a (k * a) src))
+
+pub runs_turn : (w apart n k : ℕ) (src dst y rest : List Float) → k < n → k * w ≤ length dst → length y ≡ w → y ≡ take w (drop (k * apart) src)
+    → take ((k + 1) * w) (take (k * w) dst ++ (y ++ rest)) ++ runs w apart (n - (k + 1)) (drop ((k + 1) * apart) src) ≡ take (k * w) dst ++ runs w apart (n - k) (drop (k * apart) src)
 unfolding runs
-runs_turn w apart zero a b src dst y rest h k l e = absurd (omega arith)
-runs_turn w apart (suc left) a b src dst y rest h k l e =
-    let f : suc left - 1 ≡ left = omega arith in
-    let t : length (take b dst ++ y) ≡ b + w = let z = length-take-le b dst k in length-append (take b dst) y ∙ omega arith in
-    let u : take (b + w) (take b dst ++ (y ++ rest)) ≡ take b dst ++ y = ap (λ (s : List Float). take (b + w) s) (sym (append_assoc (take b dst) y rest)) ∙ take_at (take b dst ++ y) rest (b + w) t in
-    rw (u, f, ← drop-drop apart a src, e) (append_assoc (take b dst) (take w (drop a src)) (runs w apart left (drop apart (drop a src))))
+runs_turn w apart n k src dst y rest h l z e =
+    let f : n - k ≡ suc (n - (k + 1)) = omega arith in
+    rw (part_written w k dst y rest l z, f, after_parts apart k src, e) (append_assoc (take (k * w) dst) (take w (drop (k * apart) src)) _)
 
 pub runs-end : (w apart left a b : ℕ) (src dst all : List Float) → left ≤ 0 → length dst ≡ b → take b dst ++ runs w apart left (drop a src) ≡ all → dst ≡ all
 unfolding runs

@@ -6,7 +6,7 @@ use mathlib.Core.Bool.{true, false}
 use native.Mathlib.Nat.{suc-mul, zero-mul, add-mul, mul-le-mul, le_refl}
 use native.Mathlib.Omega.{arith}
 use lib.ListN.{length, take, drop, length-append, length-drop, length-replicate}
-use lib.Seq.{drop-drop, length-take-le, take_all, take_at, drop_at}
+use lib.Seq.{length-take-le, take_all, drop_at}
 use lib.Ieee.{Float}
 use borrow.Author.Tests.{lt-ltb, le-ltb}
 use Rattle.leaves.proofs.Overs.{append_nil, two_parts, filled}
@@ -15,7 +15,7 @@ use Rattle.leaves.specs.Reply.{answered, refused}
 use Rattle.leaves.specs.Square.{zeros}
 use Rattle.leaves.specs.Tests.{outside}
 use Rattle.frozen.specs.Narrowed.{spread, spread_out, spread_call}
-use Rattle.frozen.proofs.Runs.{two_laid}
+use Rattle.frozen.proofs.Runs.{part_written, after_parts, two_laid}
 
 -- a run, and +0 up to where the next begins
 pub run_long : (w apart a : ℕ) (src : List Float) → w ≤ apart → a + w ≤ length src → length (take w (drop a src) ++ zeros (apart - w)) ≡ apart
@@ -35,17 +35,16 @@ run_laid src dst y z h ey ez =
     let f : z ≡ zeros w = filled p w dst y z l (omega arith) (rw q at ez) in
     rw q (two_parts p w src (zeros w) dst y z refl (omega arith) ey f)
 
-pub spread_turn : (w apart left a b : ℕ) (src dst y rest : List Float) → 0 < left → b ≤ length dst → length y ≡ apart → y ≡ take w (drop a src) ++ zeros (apart - w)
-    → take (b + apart) (take b dst ++ (y ++ rest)) ++ spread w apart (left - 1) (drop (a + w) src) ≡ take b dst ++ spread w apart left (drop a src)
+pub spread_turn : (w apart n k : ℕ) (src dst y rest : List Float) → k < n → k * apart ≤ length dst → length y ≡ apart → y ≡ take w (drop (k * w) src) ++ zeros (apart - w)
+    → take ((k + 1) * apart) (take (k * apart) dst ++ (y ++ rest)) ++ spread w apart (n - (k + 1)) (drop ((k + 1) * w) src) ≡ take (k * apart) dst ++ spread w apart (n - k) (drop (k * w) src)
 unfolding spread
-spread_turn w apart zero a b src dst y rest h k l e = absurd (omega arith)
-spread_turn w apart (suc left) a b src dst y rest h k l e =
-    let f : suc left - 1 ≡ left = omega arith in
-    let t : length (take b dst ++ y) ≡ b + apart = let z = length-take-le b dst k in length-append (take b dst) y ∙ omega arith in
-    let u : take (b + apart) (take b dst ++ (y ++ rest)) ≡ take b dst ++ y = ap (λ (s : List Float). take (b + apart) s) (sym (append_assoc (take b dst) y rest)) ∙ take_at (take b dst ++ y) rest (b + apart) t in
-    let s = spread w apart left (drop w (drop a src)) in
-    rw (u, f, ← drop-drop w a src, e)
-    (append_assoc (take b dst) (take w (drop a src) ++ zeros (apart - w)) s ∙ ap (λ (r : List Float). take b dst ++ r) (append_assoc (take w (drop a src)) (zeros (apart - w)) s))
+spread_turn w apart n k src dst y rest h l z e =
+    let f : n - k ≡ suc (n - (k + 1)) = omega arith in
+    let t = take (k * apart) dst in
+    let v = take w (drop (k * w) src) in
+    let s = spread w apart (n - (k + 1)) (drop w (drop (k * w) src)) in
+    rw (part_written apart k dst y rest l z, f, after_parts w k src, e)
+    (append_assoc t (v ++ zeros (apart - w)) s ∙ ap (λ (r : List Float). t ++ r) (append_assoc v (zeros (apart - w)) s))
 
 pub spread_end : (w apart left a b : ℕ) (src dst all : List Float) → left ≤ 0 → length dst ≡ b → take b dst ++ spread w apart left (drop a src) ≡ all → dst ≡ all
 unfolding spread

@@ -24,20 +24,22 @@ next_below x h = by (ltb x 32768) refl
     by true e = let l = ltb-true x 32768 e in rw (next_free x l) (omega arith)
     by false e = let l = ltb-false x 32768 e in rw (next_frozen x l) (omega arith)
 
-pub count_free : (left x free : ℕ) → 0 < left → x < 32768 → free + 1 + free_count (marks_of (left - 1) (next_of x)) ≡ free + free_count (marks_of left x)
-unfolding marks_of free_count
-count_free zero x free p h = absurd (omega arith)
-count_free (suc l) x free p h = let e : suc l - 1 ≡ l = omega arith in rw (e, lt-leb 32768 x h) (omega arith)
+-- the columns after column k
+pub after : (n k : ℕ) → k < n → n - k ≡ suc (n - (k + 1))
+after n k h = omega arith
 
-pub count_frozen : (left x free : ℕ) → 0 < left → 32768 ≤ x → free + free_count (marks_of (left - 1) (next_of x)) ≡ free + free_count (marks_of left x)
-unfolding marks_of free_count
-count_frozen zero x free p h = absurd (omega arith)
-count_frozen (suc l) x free p h = let e : suc l - 1 ≡ l = omega arith in rw (e, le-leb 32768 x h) refl
+module _ (n k x : ℕ) (h : k < n) where
+  pub count_free : (free : ℕ) → x < 32768 → free + 1 + free_count (marks_of (n - (k + 1)) (next_of x)) ≡ free + free_count (marks_of (n - k) x)
+  unfolding marks_of free_count
+  count_free free f = rw (after n k h, lt-leb 32768 x f) (omega arith)
 
-pub past_turn : (left x : ℕ) → 0 < left → mark_past (left - 1) (next_of x) ≡ mark_past left x
-unfolding mark_past
-past_turn zero x p = absurd (omega arith)
-past_turn (suc l) x p = let e : suc l - 1 ≡ l = omega arith in rw e refl
+  pub count_frozen : (free : ℕ) → 32768 ≤ x → free + free_count (marks_of (n - (k + 1)) (next_of x)) ≡ free + free_count (marks_of (n - k) x)
+  unfolding marks_of free_count
+  count_frozen free f = rw (after n k h, le-leb 32768 x f) refl
+
+  pub past_turn : mark_past (n - (k + 1)) (next_of x) ≡ mark_past (n - k) x
+  unfolding mark_past
+  past_turn = rw (after n k h) refl
 
 -- ---- sixteen turns leave nothing of sixteen bits: what k more leave nothing of, the next has k − 1 to go
 whole_after : (w y q : ℕ) → (32768 + y) * (w * 2) ≡ q * 65536 → y * 2 * w ≡ (q - w) * 65536

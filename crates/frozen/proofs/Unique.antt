@@ -8,9 +8,10 @@ use contract.Lifetimes.{Lfts}
 use borrow.Fn.World.{ArgsD}
 use borrow.Fn.Kinds.{ended_of}
 use denote.Triple.Clauses.{AtExit}
+use Rattle.std.specs.Prelude.{Result}
+use Rattle.leaves.specs.declared.reply.Refusal.{Refusal}
 use Rattle.leaves.specs.Reply.{Reply}
-use Rattle.leaves.specs.declared.reply.Done.{Done}
-use Rattle.leaves.proofs.Replies.{done_of-same}
+use Rattle.leaves.proofs.Replies.{reply_of-same}
 use Rattle.frozen.specs.contracts.marks.free_count.{signature as free-count-signature}
 use Rattle.frozen.proofs.marks.free_count.Reads as free-count
 use Rattle.frozen.proofs.marks.free_count.Kinds as free-count-kinds
@@ -45,32 +46,32 @@ pub mark_past-one_outcome : (κs : Lfts 0) (a : ArgsD mark-past-signature κs) (
     → mark-past.Post κs a r₁ s₁ → mark-past.Post κs a r₂ s₂ → r₁ ≡ r₂
 mark_past-one_outcome κs a r₁ r₂ s₁ s₂ p q = p ∙ sym q
 
-pub gather_free-one_outcome : (κs : Lfts 2) (a : ArgsD gather-free-signature κs) (r₁ r₂ : Done) (s₁ s₂ : AtExit (ended_of 2 gather-free-kinds.ps gather-free-kinds.r) κs)
+pub gather_free-one_outcome : (κs : Lfts 2) (a : ArgsD gather-free-signature κs) (r₁ r₂ : Result (Unit {0}) Refusal) (s₁ s₂ : AtExit (ended_of 2 gather-free-kinds.ps gather-free-kinds.r) κs)
     → gather_free.Post κs a r₁ s₁ → gather_free.Post κs a r₂ s₂ → (r₁ ≡ r₂) × (s₁.1.1.1.0.now ≡ s₂.1.1.1.0.now)
 gather_free-one_outcome κs a r₁ r₂ s₁ s₂ p q =
     let e = p ∙ sym q in
-    (done_of-same r₁ r₂ (ap (λ (x : Left). x.0) e), ap (λ (x : Left). x.1) e)
+    (reply_of-same r₁ r₂ (ap (λ (x : Left). x.0) e), ap (λ (x : Left). x.1) e)
 
-pub merge_into-one_outcome : (κs : Lfts 2) (a : ArgsD merge-into-signature κs) (r₁ r₂ : Done) (s₁ s₂ : AtExit (ended_of 2 merge-into-kinds.ps merge-into-kinds.r) κs)
+pub merge_into-one_outcome : (κs : Lfts 2) (a : ArgsD merge-into-signature κs) (r₁ r₂ : Result (Unit {0}) Refusal) (s₁ s₂ : AtExit (ended_of 2 merge-into-kinds.ps merge-into-kinds.r) κs)
     → merge_into.Post κs a r₁ s₁ → merge_into.Post κs a r₂ s₂ → (r₁ ≡ r₂) × (s₁.1.1.1.0.now ≡ s₂.1.1.1.0.now)
 merge_into-one_outcome κs a r₁ r₂ s₁ s₂ p q =
     let e = p ∙ sym q in
-    (done_of-same r₁ r₂ (ap (λ (x : Left). x.0) e), ap (λ (x : Left). x.1) e)
+    (reply_of-same r₁ r₂ (ap (λ (x : Left). x.0) e), ap (λ (x : Left). x.1) e)
 
-pub narrow-one_outcome : (κs : Lfts 2) (a : ArgsD narrow-signature κs) (r₁ r₂ : Done) (s₁ s₂ : AtExit (ended_of 2 narrow_kinds.ps narrow_kinds.r) κs)
+pub narrow-one_outcome : (κs : Lfts 2) (a : ArgsD narrow-signature κs) (r₁ r₂ : Result (Unit {0}) Refusal) (s₁ s₂ : AtExit (ended_of 2 narrow_kinds.ps narrow_kinds.r) κs)
     → narrow.Post κs a r₁ s₁ → narrow.Post κs a r₂ s₂ → (r₁ ≡ r₂) × (s₁.1.1.1.0.now ≡ s₂.1.1.1.0.now)
 narrow-one_outcome κs a r₁ r₂ s₁ s₂ p q =
     let e = p ∙ sym q in
-    (done_of-same r₁ r₂ (ap (λ (x : Left). x.0) e), ap (λ (x : Left). x.1) e)
+    (reply_of-same r₁ r₂ (ap (λ (x : Left). x.0) e), ap (λ (x : Left). x.1) e)
 
-pub free_columns-one_outcome : (κs : Lfts 2) (a : ArgsD free-columns-signature κs) (r₁ r₂ : Done) (s₁ s₂ : AtExit (ended_of 2 free-columns-kinds.ps free-columns-kinds.r) κs)
+pub free_columns-one_outcome : (κs : Lfts 2) (a : ArgsD free-columns-signature κs) (r₁ r₂ : Result (Unit {0}) Refusal) (s₁ s₂ : AtExit (ended_of 2 free-columns-kinds.ps free-columns-kinds.r) κs)
     → free-columns.Post κs a r₁ s₁ → free-columns.Post κs a r₂ s₂ → (r₁ ≡ r₂) × (s₁.1.1.1.1.0.now ≡ s₂.1.1.1.1.0.now)
 free_columns-one_outcome κs a r₁ r₂ s₁ s₂ p q =
     let e = p ∙ sym q in
-    (done_of-same r₁ r₂ (ap (λ (x : Left). x.0) e), ap (λ (x : Left). x.1) e)
+    (reply_of-same r₁ r₂ (ap (λ (x : Left). x.0) e), ap (λ (x : Left). x.1) e)
 
-pub spread-one_outcome : (κs : Lfts 2) (a : ArgsD spread-signature κs) (r₁ r₂ : Done) (s₁ s₂ : AtExit (ended_of 2 spread-kinds.ps spread-kinds.r) κs)
+pub spread-one_outcome : (κs : Lfts 2) (a : ArgsD spread-signature κs) (r₁ r₂ : Result (Unit {0}) Refusal) (s₁ s₂ : AtExit (ended_of 2 spread-kinds.ps spread-kinds.r) κs)
     → spread.Post κs a r₁ s₁ → spread.Post κs a r₂ s₂ → (r₁ ≡ r₂) × (s₁.1.1.1.0.now ≡ s₂.1.1.1.0.now)
 spread-one_outcome κs a r₁ r₂ s₁ s₂ p q =
     let e = p ∙ sym q in
-    (done_of-same r₁ r₂ (ap (λ (x : Left). x.0) e), ap (λ (x : Left). x.1) e)
+    (reply_of-same r₁ r₂ (ap (λ (x : Left). x.0) e), ap (λ (x : Left). x.1) e)

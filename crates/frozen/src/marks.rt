@@ -21,14 +21,13 @@ pub fn free_count(n: usize, marks: u16) -> usize
         return n;
     }
     let mut x = marks as u32;
-    let mut left = least(n, 16);
-    let mut free = n - left;
-    while left > 0 {
+    let turns = least(n, 16);
+    let mut free = n - turns;
+    for _ in 0..turns {
         if x < 32768 {
             free += 1;
         }
         x = next_of(x);
-        left -= 1;
     }
     free
 }
@@ -44,10 +43,8 @@ pub fn mark_past(n: usize, marks: u16) -> bool
         return false;
     }
     let mut x = marks as u32;
-    let mut left = n;
-    while left > 0 {
+    for _ in 0..n {
         x = next_of(x);
-        left -= 1;
     }
     x != 0
 }

@@ -15,8 +15,11 @@ mod leaf;
 mod tally;
 mod vectors;
 
+use leaves::sizes::filled;
+
 fn main(rt: HostRuntime) {
-    let mut store = feed::store();
+    // The longest line that is read.
+    let mut store: [u8; 131072] = filled(0);
     let counts = feed::all(rt.stdin(), rt.stdout(), &mut store);
     tally::report(rt.stdout(), counts);
 }

@@ -9,7 +9,10 @@ use native.Mathlib.Nat.{not-suc-le-zero, le_of_suc-le-suc}
 use lib.ListN.{length, get_or, take, drop, set, drop_of_length-le}
 use lib.Seq.{drop-cons, take_all}
 use lib.Ieee.{Float, nan, binary64, add, mul, lt}
-use Rattle.leaves.specs.Reply.{Reply, answered, refused}
+use Rattle.std.specs.Prelude.{Result, Ok}
+use Rattle.leaves.specs.Reply.{Reply, answered, refused, reply_of}
+use Rattle.leaves.specs.declared.reply.Refusal.{Refusal}
+use Rattle.leaves.proofs.Replies.{reply_of-ok}
 use Rattle.leaves.specs.Vector.{dot_from, dot_of, dot, axpy_all, axpy, scale_all, axpy_zero, imax_from, imax, copy}
 use borrow.Author.Tests.{eq-eqb, ne_eqb}
 
@@ -57,6 +60,16 @@ axpy-refused a xs ys h = rw (ne_eqb (length xs) (length ys) h, axpy)
 pub axpy_is : (a : Float) (xs ys y : List Float) (i : ℕ) → length xs ≡ length ys → length xs ≤ i → y ≡ axpy_all a (take i xs) ys → (answered tt, y) ≡ axpy a xs ys
 unfolding axpy
 axpy_is a xs ys y i h k q = rw (q, take_all i xs k, eq-eqb (length xs) (length ys) h, axpy)
+
+-- ---- on lengths that fit a leaf is never refused
+pub dot_fits : (xs ys : List Float) (r : Result Float Refusal) → length xs ≡ length ys → reply_of r ≡ dot xs ys → r ≡ Ok (dot_of xs ys)
+dot_fits xs ys r h e = reply_of-ok r (e ∙ sym (dot_is xs ys h))
+
+pub axpy_fits : (a : Float) (xs ys y : List Float) (r : Result (Unit {0}) Refusal) → length xs ≡ length ys → (reply_of r, y) ≡ axpy a xs ys → (r ≡ Ok tt) × (y ≡ axpy_all a xs ys)
+unfolding axpy
+axpy_fits a xs ys y r h e =
+    let s : (reply_of r, y) ≡ (answered tt, axpy_all a xs ys) = e ∙ rw (eq-eqb (length xs) (length ys) h) refl in
+    (reply_of-ok r (ap (λ (p : Reply (Unit {0}) × List Float). p.0) s), ap (λ (p : Reply (Unit {0}) × List Float). p.1) s)
 
 -- the first i of ys replaced by those of zs
 abbrev pub front : ℕ → List Float → List Float → List Float

@@ -9,9 +9,13 @@ use lib.ListN.{length, get_or, drop, drop_of_length-le}
 use lib.Seq.{drop-cons}
 use lib.Ieee.{Float, nan, ne, lt, le, eq, round}
 use lib.Ieee.Compare.{differs_from_itself}
-use Rattle.leaves.specs.Reply.{answered, refused}
+use Rattle.std.specs.Prelude.{Result, Ok}
+use Rattle.leaves.specs.Reply.{answered, refused, measured_of}
+use Rattle.leaves.specs.declared.reply.Refusal.{Refusal}
+use Rattle.leaves.specs.declared.norm.Normed.{Normed}
+use Rattle.leaves.proofs.Replies.{measured_of-same}
 use Rattle.leaves.specs.Number.{abs_of}
-use Rattle.leaves.specs.Norm.{rdwarf, agiant, large, add_in, step, accumulate, none, finish, norm, ranges, enorm, carried}
+use Rattle.leaves.specs.Norm.{rdwarf, agiant, large, add_in, step, accumulate, none, finish, norm, ranges, enorm}
 use Rattle.leaves.specs.declared.norm.Sums.{Sums}
 use borrow.Author.Tests.{le-leb, lt-leb}
 
@@ -31,14 +35,9 @@ pub enorm_is : (v : List Float) → length v ≤ 128 → answered (norm v, range
 unfolding enorm
 enorm_is v h = rw (le-leb (length v) 128 h, enorm)
 
--- what a norm of at most 128 numbers carries
-pub norm_carried : (v : List Float) → length v ≤ 128 → (carried (enorm v)).value ≡ norm v
-unfolding enorm
-norm_carried v h = rw (le-leb (length v) 128 h)
-
-pub seen-carried : (v : List Float) → length v ≤ 128 → (carried (enorm v)).seen ≡ ranges v
-unfolding enorm
-seen-carried v h = rw (le-leb (length v) 128 h)
+-- a norm of at most 128 numbers is never refused
+pub enorm_fits : (v : List Float) (r : Result Normed Refusal) → length v ≤ 128 → measured_of r ≡ enorm v → r ≡ Ok (record { value = norm v; seen = ranges v })
+enorm_fits v r h e = measured_of-same r (Ok (record { value = norm v; seen = ranges v })) (e ∙ sym (enorm_is v h))
 
 pub norm_is : (v : List Float) (g : Float) (t : Sums) → g ≡ agiant (length v) → t ≡ accumulate g none v → finish t ≡ norm v
 unfolding norm

@@ -9,12 +9,11 @@ use borrow.Fn.World.{ArgsD}
 use borrow.Fn.Kinds.{ended_of}
 use denote.Triple.Clauses.{AtExit}
 use Rattle.leaves.specs.Reply.{Reply}
-use Rattle.leaves.specs.declared.reply.Value.{Value}
-use Rattle.leaves.specs.declared.reply.Place.{Place}
-use Rattle.leaves.specs.declared.reply.Done.{Done}
+use Rattle.std.specs.Prelude.{Result}
+use Rattle.leaves.specs.declared.reply.Refusal.{Refusal}
 use Rattle.leaves.specs.declared.norm.Ranges.{Ranges}
 use Rattle.leaves.specs.declared.norm.Normed.{Normed}
-use Rattle.leaves.proofs.Replies.{value_of-same, place_of-same, done_of-same}
+use Rattle.leaves.proofs.Replies.{reply_of-same, measured_of-same}
 use Rattle.leaves.specs.contracts.number.epsmch.{signature as epsmch-signature}
 use Rattle.leaves.proofs.number.epsmch.Reads as epsmch
 use Rattle.leaves.proofs.number.epsmch.Kinds as epsmch-kinds
@@ -81,9 +80,15 @@ use Rattle.leaves.proofs.sizes.outside.Kinds as outside-kinds
 use Rattle.leaves.specs.contracts.sizes.least.{signature as least-signature}
 use Rattle.leaves.proofs.sizes.least.Reads as least
 use Rattle.leaves.proofs.sizes.least.Kinds as least-kinds
-use Rattle.leaves.specs.contracts.sizes.room16.{signature as room16-signature}
-use Rattle.leaves.proofs.sizes.room16.Reads as room16
-use Rattle.leaves.proofs.sizes.room16.Kinds as room16-kinds
+use Rattle.leaves.specs.contracts.sizes.filled.{signature as filled-signature}
+use Rattle.leaves.proofs.sizes.filled.Reads as filled
+use Rattle.leaves.proofs.sizes.filled.Kinds as filled-kinds
+use Rattle.std.specs.declared.clone.Clone
+use denote.RattleType.{RattleType}
+use denote.Param.{number}
+use denote.Param.Laws.{Laws, IsCopy}
+use mir.Val.{Fits}
+use mir.Syntax.{w64, Dict}
 use Rattle.leaves.specs.contracts.vector.all_finite.{signature as all-finite-signature}
 use Rattle.leaves.proofs.vector.all_finite.Reads as all-finite
 use Rattle.leaves.proofs.vector.all_finite.Kinds as all-finite-kinds
@@ -140,17 +145,17 @@ pub abs_within-one_outcome : (κs : Lfts 0) (a : ArgsD abs-within-signature κs)
     → abs-within.Post κs a r₁ s₁ → abs-within.Post κs a r₂ s₂ → r₁ ≡ r₂
 abs_within-one_outcome κs a r₁ r₂ s₁ s₂ p q = p ∙ sym q
 
-pub dot-one_outcome : (κs : Lfts 2) (a : ArgsD dot-signature κs) (r₁ r₂ : Value) (s₁ s₂ : AtExit (ended_of 2 dot-kinds.ps dot-kinds.r) κs)
+pub dot-one_outcome : (κs : Lfts 2) (a : ArgsD dot-signature κs) (r₁ r₂ : Result Float Refusal) (s₁ s₂ : AtExit (ended_of 2 dot-kinds.ps dot-kinds.r) κs)
     → dot.Post κs a r₁ s₁ → dot.Post κs a r₂ s₂ → r₁ ≡ r₂
-dot-one_outcome κs a r₁ r₂ s₁ s₂ p q = value_of-same r₁ r₂ (p ∙ sym q)
+dot-one_outcome κs a r₁ r₂ s₁ s₂ p q = reply_of-same r₁ r₂ (p ∙ sym q)
 
-pub imax-one_outcome : (κs : Lfts 1) (a : ArgsD imax-signature κs) (r₁ r₂ : Place) (s₁ s₂ : AtExit (ended_of 1 imax-kinds.ps imax-kinds.r) κs)
+pub imax-one_outcome : (κs : Lfts 1) (a : ArgsD imax-signature κs) (r₁ r₂ : Result ℕ Refusal) (s₁ s₂ : AtExit (ended_of 1 imax-kinds.ps imax-kinds.r) κs)
     → imax.Post κs a r₁ s₁ → imax.Post κs a r₂ s₂ → r₁ ≡ r₂
-imax-one_outcome κs a r₁ r₂ s₁ s₂ p q = place_of-same r₁ r₂ (p ∙ sym q)
+imax-one_outcome κs a r₁ r₂ s₁ s₂ p q = reply_of-same r₁ r₂ (p ∙ sym q)
 
-pub enorm-one_outcome : (κs : Lfts 1) (a : ArgsD enorm-signature κs) (r₁ r₂ : Normed) (s₁ s₂ : AtExit (ended_of 1 enorm-kinds.ps enorm-kinds.r) κs)
+pub enorm-one_outcome : (κs : Lfts 1) (a : ArgsD enorm-signature κs) (r₁ r₂ : Result Normed Refusal) (s₁ s₂ : AtExit (ended_of 1 enorm-kinds.ps enorm-kinds.r) κs)
     → enorm.Post κs a r₁ s₁ → enorm.Post κs a r₂ s₂ → r₁ ≡ r₂
-enorm-one_outcome κs a r₁ r₂ s₁ s₂ p q = p ∙ sym q
+enorm-one_outcome κs a r₁ r₂ s₁ s₂ p q = measured_of-same r₁ r₂ (p ∙ sym q)
 
 pub neither-one_outcome : (κs : Lfts 0) (a : ArgsD neither-signature κs) (r₁ r₂ : Ranges) (s₁ s₂ : AtExit (ended_of 0 neither-kinds.ps neither-kinds.r) κs)
     → neither.Post κs a r₁ s₁ → neither.Post κs a r₂ s₂ → r₁ ≡ r₂
@@ -168,10 +173,6 @@ pub least-one_outcome : (κs : Lfts 0) (a : ArgsD least-signature κs) (r₁ r�
     → least.Post κs a r₁ s₁ → least.Post κs a r₂ s₂ → r₁ ≡ r₂
 least-one_outcome κs a r₁ r₂ s₁ s₂ p q = p ∙ sym q
 
-pub room16-one_outcome : (κs : Lfts 0) (a : ArgsD room16-signature κs) (r₁ r₂ : List Float) (s₁ s₂ : AtExit (ended_of 0 room16-kinds.ps room16-kinds.r) κs)
-    → room16.Post κs a r₁ s₁ → room16.Post κs a r₂ s₂ → r₁ ≡ r₂
-room16-one_outcome κs a r₁ r₂ s₁ s₂ p q = p ∙ sym q
-
 pub all_finite-one_outcome : (κs : Lfts 1) (a : ArgsD all-finite-signature κs) (r₁ r₂ : Bool) (s₁ s₂ : AtExit (ended_of 1 all-finite-kinds.ps all-finite-kinds.r) κs)
     → all-finite.Post κs a r₁ s₁ → all-finite.Post κs a r₂ s₂ → r₁ ≡ r₂
 all_finite-one_outcome κs a r₁ r₂ s₁ s₂ p q = p ∙ sym q
@@ -184,29 +185,29 @@ none_zero-one_outcome κs a r₁ r₂ s₁ s₂ p q = p ∙ sym q
 abbrev Left : Type 0
 Left = Reply (Unit {0}) × List Float
 
-pub axpy-one_outcome : (κs : Lfts 2) (a : ArgsD axpy-signature κs) (r₁ r₂ : Done) (s₁ s₂ : AtExit (ended_of 2 axpy-kinds.ps axpy-kinds.r) κs)
+pub axpy-one_outcome : (κs : Lfts 2) (a : ArgsD axpy-signature κs) (r₁ r₂ : Result (Unit {0}) Refusal) (s₁ s₂ : AtExit (ended_of 2 axpy-kinds.ps axpy-kinds.r) κs)
     → axpy.Post κs a r₁ s₁ → axpy.Post κs a r₂ s₂ → (r₁ ≡ r₂) × (s₁.1.1.0.now ≡ s₂.1.1.0.now)
 axpy-one_outcome κs a r₁ r₂ s₁ s₂ p q =
     let e = p ∙ sym q in
-    (done_of-same r₁ r₂ (ap (λ (x : Left). x.0) e), ap (λ (x : Left). x.1) e)
+    (reply_of-same r₁ r₂ (ap (λ (x : Left). x.0) e), ap (λ (x : Left). x.1) e)
 
-pub axpy_zero-one_outcome : (κs : Lfts 2) (a : ArgsD axpy-zero-signature κs) (r₁ r₂ : Done) (s₁ s₂ : AtExit (ended_of 2 axpy-zero-kinds.ps axpy-zero-kinds.r) κs)
+pub axpy_zero-one_outcome : (κs : Lfts 2) (a : ArgsD axpy-zero-signature κs) (r₁ r₂ : Result (Unit {0}) Refusal) (s₁ s₂ : AtExit (ended_of 2 axpy-zero-kinds.ps axpy-zero-kinds.r) κs)
     → axpy_zero.Post κs a r₁ s₁ → axpy_zero.Post κs a r₂ s₂ → (r₁ ≡ r₂) × (s₁.1.1.0.now ≡ s₂.1.1.0.now)
 axpy_zero-one_outcome κs a r₁ r₂ s₁ s₂ p q =
     let e = p ∙ sym q in
-    (done_of-same r₁ r₂ (ap (λ (x : Left). x.0) e), ap (λ (x : Left). x.1) e)
+    (reply_of-same r₁ r₂ (ap (λ (x : Left). x.0) e), ap (λ (x : Left). x.1) e)
 
-pub copy-one_outcome : (κs : Lfts 2) (a : ArgsD copy-signature κs) (r₁ r₂ : Done) (s₁ s₂ : AtExit (ended_of 2 copy-kinds.ps copy-kinds.r) κs)
+pub copy-one_outcome : (κs : Lfts 2) (a : ArgsD copy-signature κs) (r₁ r₂ : Result (Unit {0}) Refusal) (s₁ s₂ : AtExit (ended_of 2 copy-kinds.ps copy-kinds.r) κs)
     → copy.Post κs a r₁ s₁ → copy.Post κs a r₂ s₂ → (r₁ ≡ r₂) × (s₁.1.0.now ≡ s₂.1.0.now)
 copy-one_outcome κs a r₁ r₂ s₁ s₂ p q =
     let e = p ∙ sym q in
-    (done_of-same r₁ r₂ (ap (λ (x : Left). x.0) e), ap (λ (x : Left). x.1) e)
+    (reply_of-same r₁ r₂ (ap (λ (x : Left). x.0) e), ap (λ (x : Left). x.1) e)
 
-pub solve_upper-one_outcome : (κs : Lfts 2) (a : ArgsD solve-upper-signature κs) (r₁ r₂ : Done) (s₁ s₂ : AtExit (ended_of 2 solve-upper-kinds.ps solve-upper-kinds.r) κs)
+pub solve_upper-one_outcome : (κs : Lfts 2) (a : ArgsD solve-upper-signature κs) (r₁ r₂ : Result (Unit {0}) Refusal) (s₁ s₂ : AtExit (ended_of 2 solve-upper-kinds.ps solve-upper-kinds.r) κs)
     → solve_upper.Post κs a r₁ s₁ → solve_upper.Post κs a r₂ s₂ → (r₁ ≡ r₂) × (s₁.1.1.1.0.now ≡ s₂.1.1.1.0.now)
 solve_upper-one_outcome κs a r₁ r₂ s₁ s₂ p q =
     let e = p ∙ sym q in
-    (done_of-same r₁ r₂ (ap (λ (x : Left). x.0) e), ap (λ (x : Left). x.1) e)
+    (reply_of-same r₁ r₂ (ap (λ (x : Left). x.0) e), ap (λ (x : Left). x.1) e)
 
 pub fill-one_outcome : (κs : Lfts 1) (a : ArgsD fill-signature κs) (r₁ r₂ : Unit {0}) (s₁ s₂ : AtExit (ended_of 1 fill-kinds.ps fill-kinds.r) κs)
     → fill.Post κs a r₁ s₁ → fill.Post κs a r₂ s₂ → s₁.1.0.now ≡ s₂.1.0.now
@@ -220,8 +221,14 @@ pub clear_long-one_outcome : (κs : Lfts 1) (a : ArgsD clear-long-signature κs)
     → clear-long.Post κs a r₁ s₁ → clear-long.Post κs a r₂ s₂ → s₁.0.now ≡ s₂.0.now
 clear_long-one_outcome κs a r₁ r₂ s₁ s₂ p q = p ∙ sym q
 
-pub copy_long-one_outcome : (κs : Lfts 2) (a : ArgsD copy-long-signature κs) (r₁ r₂ : Done) (s₁ s₂ : AtExit (ended_of 2 copy-long-kinds.ps copy-long-kinds.r) κs)
+pub copy_long-one_outcome : (κs : Lfts 2) (a : ArgsD copy-long-signature κs) (r₁ r₂ : Result (Unit {0}) Refusal) (s₁ s₂ : AtExit (ended_of 2 copy-long-kinds.ps copy-long-kinds.r) κs)
     → copy-long.Post κs a r₁ s₁ → copy-long.Post κs a r₂ s₂ → (r₁ ≡ r₂) × (s₁.1.0.now ≡ s₂.1.0.now)
 copy_long-one_outcome κs a r₁ r₂ s₁ s₂ p q =
     let e = p ∙ sym q in
-    (done_of-same r₁ r₂ (ap (λ (x : Left). x.0) e), ap (λ (x : Left). x.1) e)
+    (reply_of-same r₁ r₂ (ap (λ (x : Left). x.0) e), ap (λ (x : Left). x.1) e)
+
+-- for every type and every length
+module _ (T : RattleType) (N : ℕ) (L : Laws T) (F : Fits w64 N) (C : IsCopy T) (G : Clone.Ghosts T.Denot) (D : Dict) where
+  pub filled-one_outcome : (κs : Lfts 2) (a : ArgsD (filled-signature T (number N)) κs) (r₁ r₂ : List T.Denot) (s₁ s₂ : AtExit (ended_of 2 (filled-kinds.ps T N L F C) (filled-kinds.r T N L F C)) κs)
+      → filled.Post T N L F C G D κs a r₁ s₁ → filled.Post T N L F C G D κs a r₂ s₂ → r₁ ≡ r₂
+  filled-one_outcome κs a r₁ r₂ s₁ s₂ p q = p ∙ sym q

@@ -7,7 +7,6 @@ use Rattle.leaves.specs.Number.{plus_zero, one, abs_of, square_of}
 use Rattle.leaves.specs.Root.{root_s}
 use Rattle.leaves.specs.declared.norm.Sums.{Sums}
 use Rattle.leaves.specs.declared.norm.Ranges.{Ranges}
-use Rattle.leaves.specs.declared.norm.Normed.{Normed}
 
 -- rdwarf 3.834e-20 and rgiant 1.304e19, as the doubles nearest to these decimal fractions
 unfoldable pub rdwarf : Float
@@ -116,8 +115,3 @@ ranges_of (v ∷ vs) = either (ranges v) (ranges_of vs)
 -- Refused 2 over 128 numbers, and then there are no flags. Empty: +0.
 unfoldable pub enorm : List Float → Reply (Float × Ranges)
 enorm xs = cond (leb (length xs) 128) (answered (norm xs, ranges xs)) (refused 2)
-
--- a reply as the code carries it, in a struct: the number, 0 and the flags, or +0, the number of the refusal and clear flags
-abbrev pub carried : Reply (Float × Ranges) → Normed
-carried (answered p) = record { value = p.0; refusal = 0; seen = p.1 }
-carried (refused k) = record { value = plus_zero; refusal = k; seen = neither }

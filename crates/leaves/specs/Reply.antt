@@ -1,39 +1,37 @@
--- 01, 'Refusal numbers': a call gives a value or one of the numbered refusals. Each enum of the code is read as one of these two: "Where an
--- answer is an enum, a definition gives this paper's number and values for each of its cases." Two that are read alike are the same
--- (`proofs/Replies.antt`). The norm's answer alone is a struct (`carried` in `specs/Norm.antt`).
-use Rattle.std.specs.Prelude.{ℕ, Float}
-use Rattle.leaves.specs.declared.reply.Value.{Value}
-use Rattle.leaves.specs.declared.reply.Value.TheVariants as value
-use Rattle.leaves.specs.declared.reply.Place.{Place}
-use Rattle.leaves.specs.declared.reply.Place.TheVariants as place
-use Rattle.leaves.specs.declared.reply.Done.{Done}
-use Rattle.leaves.specs.declared.reply.Done.TheVariants as done
-use Rattle.leaves.specs.declared.reply.Ranged.{Ranged}
-use Rattle.leaves.specs.declared.reply.Ranged.TheVariants as ranged
-use Rattle.leaves.specs.declared.reply.Measured.{Measured}
-use Rattle.leaves.specs.declared.reply.Measured.TheVariants as measured
+-- 01, 'Refusal numbers': a call gives a value or one of the numbered refusals. What the code answers is read so: "Where an answer is an enum, a
+-- definition gives this paper's number and values for each of its cases." Two that are read alike are the same (`proofs/Replies.antt`).
+use Rattle.std.specs.Prelude.{ℕ, Float, Result, Ok, Err}
+use Rattle.leaves.specs.declared.reply.Refusal.{Refusal}
+use Rattle.leaves.specs.declared.reply.Refusal.TheVariants as refusal
 use Rattle.leaves.specs.declared.norm.Ranges.{Ranges}
+use Rattle.leaves.specs.declared.norm.Normed.{Normed}
 
 pub data Reply (A : Type 0) : Type 0 where
   answered : A → Reply A
   refused : ℕ → Reply A
 
-abbrev pub value_of : Value → Reply Float
-value_of (value.Is x) = answered x
-value_of (value.Refused k) = refused k
+-- 1 to 8 of 01, and 9 of 02, #108
+abbrev pub refusal_number : Refusal → ℕ
+refusal_number refusal.Sheet = 1
+refusal_number refusal.Sizes = 2
+refusal_number refusal.Length = 3
+refusal_number refusal.Order = 4
+refusal_number refusal.NotHeld = 5
+refusal_number refusal.NotFinite = 6
+refusal_number refusal.Range = 7
+refusal_number refusal.Overflow = 8
+refusal_number refusal.AllFrozen = 9
 
-abbrev pub place_of : Place → Reply ℕ
-place_of (place.At i) = answered i
-place_of (place.Refused k) = refused k
+abbrev pub reply_of : {A : Type 0} → Result A Refusal → Reply A
+reply_of (Ok x) = answered x
+reply_of (Err r) = refused (refusal_number r)
 
-abbrev pub done_of : Done → Reply (Unit {0})
-done_of done.Written = answered tt
-done_of (done.Refused k) = refused k
+-- a norm and its ranges
+abbrev pub measured_of : Result Normed Refusal → Reply (Float × Ranges)
+measured_of (Ok t) = answered (t.value, t.seen)
+measured_of (Err r) = refused (refusal_number r)
 
-abbrev pub ranged_of : Ranged → Reply Ranges
-ranged_of (ranged.Seen f) = answered f
-ranged_of (ranged.Refused k) = refused k
-
-abbrev pub measured_of : Measured → Reply (Float × Ranges)
-measured_of (measured.Is x f) = answered (x, f)
-measured_of (measured.Refused k) = refused k
+-- the number of the test that failed, 0 for none
+abbrev pub failed_by : {A : Type 0} → Result A Refusal → ℕ
+failed_by (Ok x) = 0
+failed_by (Err r) = refusal_number r

@@ -4,3 +4,4 @@ pub mod Patch
 pub mod Squares
 pub mod Opened
 pub mod Flags
+pub mod Orders

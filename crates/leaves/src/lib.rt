@@ -2,6 +2,7 @@
 // fills, counts and the tests on sizes and slices: they stand here because every later module needs them, with contracts like the others.
 #![tactic(auto)]
 
+pub mod lent;
 pub mod norm;
 pub mod number;
 pub mod pieces;

@@ -1,11 +1,12 @@
 // Document 01, 'Leaf rules', enorm: MINPACK-1's ENORM with document 01's limits. Sums of squares are kept apart for
 // small, middle and large entries, so that no square overflows or is lost.
 ghost use Rattle.std.specs.Prelude.{◌≡◌, ◌≤◌, length};
-ghost use Rattle.leaves.specs.Norm.{large as large_of, small as small_of, step as step_of, finish as finish_of, norm as norm_of, ranges as ranges_in, neither as neither_of, either as either_of, enorm as enorm_of, carried};
+ghost use Rattle.leaves.specs.Norm.{large as large_of, small as small_of, step as step_of, finish as finish_of, norm as norm_of, ranges as ranges_in, neither as neither_of, either as either_of, enorm as enorm_of};
 ghost use Rattle.leaves.specs.inner.Flags.{flags_of};
-ghost use Rattle.leaves.specs.Reply.{answered};
+ghost use Rattle.leaves.specs.Reply.{measured_of};
 
 use crate::number::abs;
+use crate::reply::Refusal;
 use crate::root::sqrt;
 
 const RDWARF: f64 = 3.834e-20;
@@ -29,19 +30,14 @@ fn large(t: Sums, v: f64) -> Sums
         let q = t.x1max / v;
         Sums {
             s1: 1.0 + t.s1 * (q * q),
-            s2: t.s2,
-            s3: t.s3,
             x1max: v,
-            x3max: t.x3max,
+            ..t
         }
     } else {
         let q = v / t.x1max;
         Sums {
             s1: t.s1 + q * q,
-            s2: t.s2,
-            s3: t.s3,
-            x1max: t.x1max,
-            x3max: t.x3max,
+            ..t
         }
     }
 }
@@ -52,11 +48,9 @@ fn small(t: Sums, v: f64) -> Sums
     if t.x3max < v {
         let q = t.x3max / v;
         return Sums {
-            s1: t.s1,
-            s2: t.s2,
             s3: 1.0 + t.s3 * (q * q),
-            x1max: t.x1max,
             x3max: v,
+            ..t
         };
     }
     if v == 0.0 {
@@ -64,11 +58,8 @@ fn small(t: Sums, v: f64) -> Sums
     }
     let q = v / t.x3max;
     Sums {
-        s1: t.s1,
-        s2: t.s2,
         s3: t.s3 + q * q,
-        x1max: t.x1max,
-        x3max: t.x3max,
+        ..t
     }
 }
 
@@ -79,11 +70,8 @@ fn step(agiant: f64, t: Sums, x: f64) -> Sums
     if RDWARF < x {
         if x < agiant {
             return Sums {
-                s1: t.s1,
                 s2: t.s2 + x * x,
-                s3: t.s3,
-                x1max: t.x1max,
-                x3max: t.x3max,
+                ..t
             };
         }
         return large(t, x);
@@ -91,11 +79,8 @@ fn step(agiant: f64, t: Sums, x: f64) -> Sums
     if x < -RDWARF {
         if -agiant < x {
             return Sums {
-                s1: t.s1,
                 s2: t.s2 + x * x,
-                s3: t.s3,
-                x1max: t.x1max,
-                x3max: t.x3max,
+                ..t
             };
         }
         return large(t, -x);
@@ -138,18 +123,17 @@ fn finish(t: Sums) -> f64
     t.x3max * sqrt(t.s3)
 }
 
-// A norm, or the number of a refusal: 0 for none; and the ranges that took part. By value, so that it stays in registers; an enum that
-// carries a number goes through memory (docs/DECISIONS.md, D65).
+// A norm, or a number taken from one, and the ranges that took part.
 #[derive(Clone, Copy)]
 pub struct Normed {
     pub value: f64,
-    pub refusal: u8,
     pub seen: Ranges,
 }
 
 fn sum_up(v: &[f64]) -> Normed
     requires { length v.now ≤ 128 }
-    ensures { result ≡ carried (answered (norm_of v.now, ranges_in v.now)) }
+    ensures value_value { result.value ≡ norm_of v.now }
+    ensures seen_value { result.seen ≡ ranges_in v.now }
 {
     let agiant = RGIANT / (v.len() as f64);
     let mut t = Sums {
@@ -159,16 +143,12 @@ fn sum_up(v: &[f64]) -> Normed
         x1max: 0.0,
         x3max: 0.0,
     };
-    let mut i = 0;
-    while i < v.len() {
-        t = step(agiant, t, v[i]);
-        i += 1;
+    for &x in v {
+        t = step(agiant, t, x);
     }
-    let seen = seen_in(t);
     Normed {
         value: finish(t),
-        refusal: 0,
-        seen: seen,
+        seen: seen_in(t),
     }
 }
 
@@ -196,21 +176,16 @@ pub fn either(a: Ranges, b: Ranges) -> Ranges
 // was 1.304e19 over the number of entries or more, infinite or NaN. Zeros are neither. The flags change nothing about the number.
 //
 // v: at most 128 numbers, only read. Of none the norm is +0.
-// Refused 2 for more; the value is then +0, the flags are clear, and both mean nothing.
+// Refused 2 for more.
 // The sum is called at two places, or it would be built in here and the answer go through memory (docs/DECISIONS.md, D74).
-pub fn enorm(v: &[f64]) -> Normed
-    ensures { result ≡ carried (enorm_of v.now) }
+pub fn enorm(v: &[f64]) -> Result<Normed, Refusal>
+    ensures { measured_of result ≡ enorm_of v.now }
 {
     if v.len() > 128 {
-        let seen = neither();
-        return Normed {
-            value: 0.0,
-            refusal: 2,
-            seen: seen,
-        };
+        return Err(Refusal::Sizes);
     }
     if v.len() <= 16 {
-        return sum_up(v);
+        return Ok(sum_up(v));
     }
-    sum_up(v)
+    Ok(sum_up(v))
 }

@@ -80,7 +80,7 @@ pub fn abs_below(x: f64, a: f64) -> bool
     if -a < x { x < a } else { false }
 }
 
-// Whether |x| ≤ a, two-sided too. Refuses nothing.
+// Whether |x| ≤ a, two-sided too. Refuses nothing. Two functions: a comparison as a parameter would say more than both of them.
 pub fn abs_within(x: f64, a: f64) -> bool
     ensures { result ≡ le (abs_of x) a }
 {

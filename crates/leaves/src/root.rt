@@ -42,7 +42,7 @@ pub struct Going {
     pub rem: u64,
 }
 
-// A subnormal's pattern is its n. One turn for each place that is missing.
+// A subnormal's pattern is its n. One turn for each place that is missing: a `while`, since it ends on what t is and counts nothing.
 fn raise(t: u64) -> Norm
     requires { (0 < t) × (t < 2 ^ 52) }
     ensures { Normed t result.t result.z }
@@ -53,7 +53,7 @@ fn raise(t: u64) -> Norm
         m = m << 1;
         z -= 1;
     }
-    Norm { t: m, z: z }
+    Norm { t: m, z }
 }
 
 // t and z from the pattern: above the subnormals the leading digit is not stored, and the field is z - 52. Up by 12 and down again, the
@@ -85,13 +85,10 @@ fn digit(s: u64, rem: u64, r: u64) -> Going
             rem: d + d,
         };
     }
-    Going {
-        s: s,
-        rem: rem + rem,
-    }
+    Going { s, rem: rem + rem }
 }
 
-// q, by 54 digits: after the last, worth 1, nothing is left of r.
+// q, by 54 digits: after the last, worth 1, nothing is left of r. A `while`: its r is the digit's worth and no index.
 fn near_root(v: u64) -> u64
     requires { (2 ^ 52 ≤ v) × (v + 1 < 2 ^ 54) }
     ensures { (result ≡ near_root (v * 2 ^ 52)) × (2 ^ 52 ≤ result) × (result < 2 ^ 53) }

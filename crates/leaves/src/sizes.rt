@@ -1,7 +1,6 @@
-// Document 01, 'Sizes' and test 2; and what every later module needs for a number of each column. Test 2 stands here and not in `factor`,
+// Document 01, 'Sizes' and test 2; and the rooms that every later module needs. Test 2 stands here and not in `factor`,
 // because `reduce` and `eliminate`, below it, make it too.
 ghost use Rattle.std.specs.Prelude.{◌≡◌, min, replicate};
-ghost use Rattle.leaves.specs.Number.{plus_zero};
 ghost use Rattle.leaves.specs.Tests.{outside as outside_of};
 
 // Test 2: m rows or n columns outside their range.
@@ -30,9 +29,9 @@ pub fn least(a: usize, b: usize) -> usize
     if a < b { a } else { b }
 }
 
-// Room for a number of each column, all +0. Its own function, so that a proof sees one list and not sixteen cells. Refuses nothing.
-pub fn room16() -> [f64; 16]
-    ensures { result ≡ replicate 16 plus_zero }
+// Room for N things, all v. Its own function, so that a proof sees one list and not N cells. Refuses nothing.
+pub fn filled<T: Copy, const N: usize>(v: T) -> [T; N]
+    ensures { result ≡ replicate N v }
 {
-    [0.0; 16]
+    [v; N]
 }

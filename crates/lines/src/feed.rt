@@ -4,7 +4,8 @@ ghost use Rattle.lines.specs.Feed.{fed_from};
 
 use std::num::wrapping_add_usize;
 
-// The place of what is left of the chunk; how many bytes of the line have come, whether or not its room holds them; whether it ended.
+// The place of what is left of the chunk; how many bytes of the line have come, whether or not its room holds them; whether it ended: a
+// flag, since the place and the count stand either way.
 #[derive(Clone, Copy)]
 pub struct Fed {
     pub next: usize,
@@ -25,13 +26,11 @@ pub fn line(chunk: &[u8], at: usize, room: &mut [u8], fill: usize) -> Fed
     ensures { (result, room.new) ≡ fed_from at fill (drop at chunk.now) room.old }
 {
     let mut k = fill;
-    let mut i = at;
-    while i < chunk.len() {
+    for i in at..chunk.len() {
         let b = chunk[i];
-        i += 1;
         if b == b'\n' {
             return Fed {
-                next: i,
+                next: i + 1,
                 fill: k,
                 ended: true,
             };
@@ -40,7 +39,7 @@ pub fn line(chunk: &[u8], at: usize, room: &mut [u8], fill: usize) -> Fed
         k = wrapping_add_usize(k, 1);
     }
     Fed {
-        next: i,
+        next: at.max(chunk.len()),
         fill: k,
         ended: false,
     }

@@ -3,18 +3,10 @@ ghost use Rattle.std.specs.Prelude.{◌≡◌, length};
 ghost use Rattle.text.specs.inner.Part.{Part};
 ghost use Rattle.lines.specs.Part.{at_most};
 
-// n, or how many bytes s has where that is less. Refuses nothing.
-pub fn within(s: &[u8], n: usize) -> usize
+// n, or how many things s has where that is less. Refuses nothing.
+pub fn within<T>(s: &[T], n: usize) -> usize
     ensures value { result ≡ at_most (length s.now) n }
     ensures part { Part result s.now }
 {
     if n < s.len() { n } else { s.len() }
-}
-
-// n, or how many doubles v has where that is less. Refuses nothing.
-pub fn doubles_within(v: &[f64], n: usize) -> usize
-    ensures value { result ≡ at_most (length v.now) n }
-    ensures part { Part result v.now }
-{
-    if n < v.len() { n } else { v.len() }
 }

@@ -1,43 +1,44 @@
-// Words into a lent buffer from a place on, each with a space before it. Each function answers the place after what it wrote.
+// Words onto a page, each with a space before it.
 ghost use Rattle.std.specs.Prelude.{◌≡◌};
 ghost use Rattle.text.specs.Put.{hex_of};
 ghost use Rattle.lines.specs.Put.{joined, space, double_at, row_from, refusing};
 
 use text::double::bits_of;
+use text::put::Page;
 
-// A space and k in capital hex digits, into out from `at` on. Answers the place after them.
-pub fn number(k: usize, out: &mut [u8], at: usize) -> usize
-    ensures { (result, out.new) ≡ joined space (hex_of k) at out.old }
+// A space and k in capital hex digits.
+pub fn number(k: usize, page: &mut Page<'_>)
+    ensures wrote { (page.new.at, page.new.out.now) ≡ joined space (hex_of k) page.old.at page.old.out.now }
+    ensures same_out { page.new.out.ghost_name ≡ page.old.out.ghost_name }
 {
-    let n = text::put::bytes(b" ", out, at);
-    text::put::hex(k as u64, out, n)
+    page.bytes(b" ");
+    page.hex(k as u64);
 }
 
-// A space and the 16 hex digits of x, into out from `at` on. Answers the place after them.
-pub fn double(x: f64, out: &mut [u8], at: usize) -> usize
-    ensures { (result, out.new) ≡ double_at x at out.old }
+// A space and the 16 hex digits of x.
+pub fn double(x: f64, page: &mut Page<'_>)
+    ensures wrote { (page.new.at, page.new.out.now) ≡ double_at x page.old.at page.old.out.now }
+    ensures same_out { page.new.out.ghost_name ≡ page.old.out.ghost_name }
 {
-    let n = text::put::bytes(b" ", out, at);
-    text::put::word(bits_of(x), out, n)
+    page.bytes(b" ");
+    page.word(bits_of(x));
 }
 
-// Each double of v as `double` puts it, one after the other. Answers the place after them.
-pub fn row(v: &[f64], out: &mut [u8], at: usize) -> usize
-    ensures { (result, out.new) ≡ row_from v.now at out.old }
+// Each double of v as `double` puts it, one after the other.
+pub fn row(v: &[f64], page: &mut Page<'_>)
+    ensures wrote { (page.new.at, page.new.out.now) ≡ row_from v.now page.old.at page.old.out.now }
+    ensures same_out { page.new.out.ghost_name ≡ page.old.out.ghost_name }
 {
-    let mut k = at;
-    let mut i: usize = 0;
-    while i < v.len() {
-        k = double(v[i], out, k);
-        i += 1;
+    for x in v {
+        double(*x, page);
     }
-    k
 }
 
 // `refused` and its number, with no space before it.
-pub fn refused(k: u8, out: &mut [u8], at: usize) -> usize
-    ensures { (result, out.new) ≡ joined refusing (hex_of k) at out.old }
+pub fn refused(k: u8, page: &mut Page<'_>)
+    ensures wrote { (page.new.at, page.new.out.now) ≡ joined refusing (hex_of k) page.old.at page.old.out.now }
+    ensures same_out { page.new.out.ghost_name ≡ page.old.out.ghost_name }
 {
-    let n = text::put::bytes(b"refused ", out, at);
-    text::put::hex(k as u64, out, n)
+    page.bytes(b"refused ");
+    page.hex(k as u64);
 }

@@ -1,26 +1,29 @@
 // The words of a line, one space apart.
-ghost use Rattle.std.specs.Prelude.{◌≡◌, slice_index};
+ghost use Rattle.std.specs.Prelude.{◌≡◌, slice_index, IfOk};
 ghost use Rattle.text.specs.inner.Part.{Part};
-ghost use Rattle.lines.specs.Scan.{past, word_at, none, doubles_at, vector_at};
+ghost use Rattle.lines.specs.Scan.{past, word_at, doubles_at, vector_at};
 
 use text::double::of_bits;
-use text::read::Read;
 
 // A number, and the place of the word after it.
 #[derive(Clone, Copy)]
 pub struct Number {
     pub value: u64,
     pub next: usize,
-    pub good: bool,
 }
 
-// How many doubles were read into a room; where that is not good, whether they were too many for it.
+// How many doubles were read into a room, and the place of the word after them.
 #[derive(Clone, Copy)]
 pub struct Span {
     pub len: usize,
     pub next: usize,
-    pub good: bool,
-    pub large: bool,
+}
+
+// Why none were: a word that does not read, or too many for the room.
+#[derive(Clone, Copy, Debug, PartialEq, Eq)]
+pub enum Unread {
+    Bad,
+    Large,
 }
 
 // The byte of s at place i; 0 past the end. Refuses nothing.
@@ -43,74 +46,43 @@ fn past_space(s: &[u8], i: usize) -> usize
     i
 }
 
-// A word that does not read leaves its place, so that no word read after it is good either.
-pub fn word(s: &[u8], at: usize) -> Number
+// None where the word does not read.
+pub fn word(s: &[u8], at: usize) -> Option<Number>
     ensures { result ≡ word_at s.now at }
 {
-    let r = text::read::number(s, at);
-    match r {
-        Read::Is(f) => {
-            let next = past_space(s, f.next);
-            Number {
-                value: f.value,
-                next: next,
-                good: true,
-            }
-        }
-        Read::Refused => Number {
-            value: 0,
-            next: at,
-            good: false,
-        },
-    }
-}
-
-fn bad(at: usize, large: bool) -> Span
-    ensures { result ≡ none at large }
-{
-    Span {
-        len: 0,
-        next: at,
-        good: false,
-        large: large,
-    }
+    let f = text::read::number(s, at)?;
+    Some(Number {
+        value: f.value,
+        next: past_space(s, f.next),
+    })
 }
 
 // As many doubles as len says.
-pub fn doubles(s: &[u8], at: usize, len: usize, room: &mut [f64]) -> Span
+pub fn doubles(s: &[u8], at: usize, len: usize, room: &mut [f64]) -> Result<Span, Unread>
     ensures room_after { (result, room.new) ≡ doubles_at s.now at len room.old }
-    ensures part { Part result.len room.new }
+    ensures part { IfOk result (λ f. Part f.len room.new) }
 {
     if room.len() < len {
-        return bad(at, true);
+        return Err(Unread::Large);
     }
     let mut next = at;
-    let mut i: usize = 0;
-    while i < len {
-        let w = word(s, next);
-        if !w.good {
-            return bad(at, false);
-        }
+    for i in 0..len {
+        let Some(w) = word(s, next) else {
+            return Err(Unread::Bad);
+        };
         room[i] = of_bits(w.value);
         next = w.next;
-        i += 1;
     }
-    Span {
-        len: len,
-        next: next,
-        good: true,
-        large: false,
-    }
+    Ok(Span { len, next })
 }
 
 // A length, and as many doubles.
-pub fn vector(s: &[u8], at: usize, room: &mut [f64]) -> Span
+pub fn vector(s: &[u8], at: usize, room: &mut [f64]) -> Result<Span, Unread>
     ensures room_after { (result, room.new) ≡ vector_at s.now at room.old }
-    ensures part { Part result.len room.new }
+    ensures part { IfOk result (λ f. Part f.len room.new) }
 {
-    let n = word(s, at);
-    if n.good {
-        return doubles(s, n.next, n.value as usize, room);
-    }
-    bad(at, false)
+    let Some(n) = word(s, at) else {
+        return Err(Unread::Bad);
+    };
+    doubles(s, n.next, n.value as usize, room)
 }

@@ -1,4 +1,5 @@
 -- Laws that belong to no one function.
+pub mod Asked
 pub mod Measured
 pub mod Answers
 pub mod OneMeasure

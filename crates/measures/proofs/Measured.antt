@@ -15,7 +15,7 @@ use Rattle.leaves.specs.Product.{divided_by}
 use Rattle.leaves.specs.declared.norm.Ranges.{Ranges}
 use Rattle.measures.specs.Gradient.{measures, largest, gradient, above, above_limit, jx_norm_of, jx_ranges}
 use Rattle.factor.specs.Room.{load, lay, rested}
-use Rattle.leaves.specs.Square.{uppers_of, diagonal}
+use Rattle.leaves.specs.Square.{diagonal}
 use Rattle.factor.specs.Solve.{gather, non_singular_of}
 use Rattle.measures.specs.Determined.{determined_of}
 use Rattle.measures.specs.inner.Counted.{counted_of}
@@ -24,7 +24,6 @@ use Rattle.factor.specs.Tests.{room_tests, order_test, finite_test, finite_numbe
 use Rattle.factor.specs.Outcome.{told}
 use Rattle.measures.specs.Measures.{finite_or_8, gradient_call, above_tests, above_call, jx_call, determined_call, non_singular_call}
 use Rattle.factor.specs.declared.state.State.{State}
-use Rattle.factor.proofs.Layouts.{square_upper}
 use Rattle.factor.specs.PivotOrder.{full_rank}
 use Rattle.factor.proofs.Copied.{tests_passed}
 use Rattle.factor.proofs.PivotOrders.{full_rank_passed}
@@ -33,10 +32,26 @@ use Rattle.leaves.proofs.Refusals.{call-refused, call-worked, stopped, went_to, 
 use Rattle.leaves.proofs.Insides.{Inside}
 use Rattle.leaves.proofs.Squares.{diagonal-length}
 use Rattle.factor.specs.inner.Rooms.{Sized}
+use Rattle.factor.proofs.Orders.{ordered-below}
+use Rattle.leaves.specs.inner.Orders.{Names}
 
 -- ---- sizes, as the workings on a store ask them
 pub one_inside : {n : ℕ} {s : List Float} → 0 < n → Sized n s → Inside 1 n
 one_inside h z = record { rows_some = omega arith; rows_few = omega arith; cols_some = h; cols_few = z.small }
+
+-- what a problem is lent as, once its tests are passed
+pub record Form (n : ℕ) (s : List Float) (order : List ℕ) : Type 0 where
+  pub some : 0 < n
+  pub sized : Sized n s
+  pub names : Names n order
+
+pub ordered_form : (st : State) (s : List Float) (order : List ℕ) (shortest : ℕ) → Ordered st (length s) order shortest → Form st.n s order
+ordered_form st s order shortest o =
+    record {
+      some = o.room.sizes.cols_some;
+      sized = passed_sized st s shortest o.room;
+      names = record { long = o.order_long; below = ordered-below st (length s) order shortest o };
+    }
 
 -- ---- the gradient
 abbrev pub gradient_tests : State → ℕ → List ℕ → Float → List Test
@@ -47,6 +62,19 @@ gradient_tests st store order bnorm =
 pub gradient_first : (st : State) (store : ℕ) (order : List ℕ) {c : ℕ} → c ≡ first_of (solve_tests st store order (length order))
     → c ≡ first_of (room_tests st store (length order) ++ (order_test st order ∷ []))
 gradient_first st store order e = e ∙ ap first_of (order_alone st store order)
+
+module _ (st : State) (store : ℕ) (order : List ℕ) (bnorm : Float) where
+  abbrev bnorm_tests : List Test
+  bnorm_tests = finite_number bnorm ∷ (not_above bnorm, 7) ∷ []
+
+  abbrev listed : List Test
+  listed = room_tests st store (length order) ++ (order_test st order ∷ [])
+
+  pub gradient-stopped : {c : ℕ} → c ≡ first_of (solve_tests st store order (length order)) → (c ≡ 0 → ⊥) → c ≡ first_of (gradient_tests st store order bnorm)
+  gradient-stopped e h = sym (stopped listed bnorm_tests _ (gradient_first st store order e) h)
+
+  pub gradient_went : {k : ℕ} → 0 ≡ first_of (solve_tests st store order (length order)) → k ≡ first_of bnorm_tests → k ≡ first_of (gradient_tests st store order bnorm)
+  gradient_went e h = went_to listed bnorm_tests refl (gradient_first st store order e) refl h
 
 pub gradient_passed : (st : State) (store : ℕ) (order : List ℕ) (bnorm : Float) {c : ℕ} → c ≡ first_of (gradient_tests st store order bnorm) → c ≡ 0
     → Ordered st store order (length order)
@@ -59,10 +87,10 @@ gradient_passed st store order bnorm e z =
 -- the measure of the room that is lent
 pub gradient_law : (n : ℕ) (s : List Float) (order : List ℕ) (bnorm : Float) {b t : List Float} {r : Reply Float}
     → b ≡ divided_by bnorm (load n s).qtb → t ≡ (load n s).norms
-    → r ≡ largest plus_zero (measures b (uppers_of n (take (n * n) s)) (gather (take n order) t))
+    → r ≡ largest plus_zero (measures b (load n s).upper (gather (take n order) t))
     → r ≡ gradient (gather (take n order) (load n s).norms) bnorm (load n s).upper (load n s).qtb
 unfolding gradient
-gradient_law n s order bnorm e f h = h ∙ rw (e, f, square_upper n s)
+gradient_law n s order bnorm e f h = h ∙ rw (e, f)
 
 module _ (st : State) (order : List ℕ) (bnorm : Float) (s : List Float) {c : ℕ} (e : c ≡ first_of (gradient_tests st (length s) order bnorm)) where
   pub gradient-refused : (c ≡ 0 → ⊥) → told (refused c) st s ≡ gradient_call st order bnorm s
@@ -86,9 +114,9 @@ module _ (st : State) (store : ℕ) (order : List ℕ) (bnorm limit : Float) whe
   pub above-stopped : {c : ℕ} → c ≡ first_of (solve_tests st store order (length order)) → (c ≡ 0 → ⊥) → c ≡ first_of (above_tests st store order bnorm limit)
   above-stopped e h = sym (stopped ordered (limit_tests bnorm limit) _ (gradient_first st store order e) h)
 
-  pub above_went : {c k : ℕ} → c ≡ first_of (solve_tests st store order (length order)) → c ≡ 0 → k ≡ first_of (limit_tests bnorm limit)
+  pub above_went : {k : ℕ} → 0 ≡ first_of (solve_tests st store order (length order)) → k ≡ first_of (limit_tests bnorm limit)
       → k ≡ first_of (above_tests st store order bnorm limit)
-  above_went e z h = went_to ordered (limit_tests bnorm limit) refl (gradient_first st store order e) z h
+  above_went e h = went_to ordered (limit_tests bnorm limit) refl (gradient_first st store order e) refl h
 
   pub above_passed : {c : ℕ} → c ≡ first_of (above_tests st store order bnorm limit) → c ≡ 0 → Ordered st store order (length order)
   above_passed e z =
@@ -97,10 +125,10 @@ module _ (st : State) (store : ℕ) (order : List ℕ) (bnorm limit : Float) whe
 
 pub above_law : (n : ℕ) (s : List Float) (order : List ℕ) (bnorm limit : Float) {b t : List Float} {r : Reply Bool}
     → b ≡ divided_by bnorm (load n s).qtb → t ≡ (load n s).norms
-    → r ≡ above limit (measures b (uppers_of n (take (n * n) s)) (gather (take n order) t))
+    → r ≡ above limit (measures b (load n s).upper (gather (take n order) t))
     → r ≡ above_limit (gather (take n order) (load n s).norms) bnorm limit (load n s).upper (load n s).qtb
 unfolding above_limit
-above_law n s order bnorm limit e f h = h ∙ rw (e, f, square_upper n s)
+above_law n s order bnorm limit e f h = h ∙ rw (e, f)
 
 module _ (st : State) (order : List ℕ) (bnorm limit : Float) (s : List Float) {c : ℕ} (e : c ≡ first_of (above_tests st (length s) order bnorm limit)) where
   pub above-refused : (c ≡ 0 → ⊥) → told (refused c) st s ≡ above_call st order bnorm limit s
@@ -129,22 +157,19 @@ as_eight : (v : Float) (seen : Ranges) → is_finite v ≡ false → refused 8 �
 as_eight v seen h = rw (h, finite_or_8)
 
 module _ (n : ℕ) (s : List Float) (order : List ℕ) (x : List Float) {v : Float} {seen : Ranges} {ok : Bool}
-    (e : v ≡ jx_norm_of (gather (take n order) x) (uppers_of n (take (n * n) s)))
-    (k : seen ≡ jx_ranges (gather (take n order) x) (uppers_of n (take (n * n) s))) (f : ok ≡ is_finite v) where
+    (e : v ≡ jx_norm_of (gather (take n order) x) (load n s).upper)
+    (k : seen ≡ jx_ranges (gather (take n order) x) (load n s).upper) (f : ok ≡ is_finite v) where
   abbrev whole : Float
   whole = jx_norm_of (gather (take n order) x) (load n s).upper
 
   abbrev took_part : Ranges
   took_part = jx_ranges (gather (take n order) x) (load n s).upper
 
-  is : v ≡ whole
-  is = e ∙ rw (square_upper n s)
-
   finite : is_finite whole ≡ ok
-  finite = ap is_finite (sym is) ∙ sym f
+  finite = ap is_finite (sym e) ∙ sym f
 
   pair : ◌≡◌ {A = Float × Ranges} (v, seen) (whole, took_part)
-  pair = ap (λ (y : Float). (y, seen)) is ∙ ap (λ (r : Ranges). (whole, r)) (k ∙ rw (square_upper n s))
+  pair = ap (λ (y : Float). (y, seen)) e ∙ ap (λ (r : Ranges). (whole, r)) k
 
   pub jx_finite : ok ≡ true → answered (v, seen) ≡ finite_or_8 whole took_part
   jx_finite h = ap answered pair ∙ as_is whole took_part (finite ∙ h)
@@ -163,9 +188,9 @@ module _ (st : State) (order : List ℕ) (x s : List Float) {c : ℕ} (e : c ≡
   unfolding jx_call
   jx_worked z h l = rw (h, l) (call-worked _ (λ k. told (refused k) st s) _ (sym e ∙ z))
 
--- ---- determined: o is R's diagonal, lent as the first n of a room
+-- ---- o, as what was worked out stands as the first n of a room
 module _ (n : ℕ) (room o : List Float) (h : length o ≡ n) where
-  lent_again : take n (o ++ drop n room) ≡ o
+  pub lent_again : take n (o ++ drop n room) ≡ o
   lent_again = take_at o (drop n room) n h
 
   pub again_fits : n ≤ length (o ++ drop n room)

@@ -7,23 +7,17 @@ use contract.Lifetimes.{Lfts}
 use borrow.Fn.World.{ArgsD}
 use borrow.Fn.Kinds.{ended_of}
 use denote.Triple.Clauses.{AtExit}
-use Rattle.leaves.specs.declared.reply.Place.{Place}
-use Rattle.leaves.specs.declared.reply.Measured.{Measured}
+use Rattle.std.specs.Prelude.{Result}
+use Rattle.leaves.specs.declared.reply.Refusal.{Refusal}
+use Rattle.leaves.specs.declared.norm.Normed.{Normed}
 use Rattle.leaves.specs.declared.norm.Ranges.{Ranges}
-use Rattle.leaves.proofs.Replies.{place_of-same, measured_of-same}
+use Rattle.leaves.proofs.Replies.{reply_of-same, measured_of-same}
+use Rattle.leaves.specs.declared.reply.Told.{Told as Answered}
 use Rattle.factor.specs.Outcome.{Told, Ended}
 use Rattle.measures.specs.Rescale.{Scaled}
-use Rattle.factor.specs.declared.answer.Truth.{Truth}
-use Rattle.measures.specs.declared.gradient.Gradient.{Gradient}
 use Rattle.measures.specs.declared.scaling.Scaling.{Scaling}
 use Rattle.factor.specs.declared.state.State.{State}
-use Rattle.factor.proofs.Answers.{truth_of-same}
-use Rattle.measures.proofs.Answers.{gradient_of-same, scaling_of-same}
-use Rattle.measures.specs.declared.measures.GradientTold.{GradientTold}
-use Rattle.measures.specs.declared.measures.MeasuredTold.{MeasuredTold}
-use Rattle.measures.specs.declared.measures.PlaceTold.{PlaceTold}
-use Rattle.measures.specs.declared.measures.TruthTold.{TruthTold}
-use Rattle.measures.specs.declared.update_diag.ScalingTold.{ScalingTold}
+use Rattle.measures.proofs.Answers.{scaling_of-same}
 use Rattle.measures.specs.contracts.measures.max_a_t_b_scaled.{signature as max-a-t-b-scaled-signature}
 use Rattle.measures.proofs.measures.max_a_t_b_scaled.Reads as max-a-t-b-scaled
 use Rattle.measures.proofs.measures.max_a_t_b_scaled.Kinds as max-a-t-b-scaled-kinds
@@ -43,61 +37,46 @@ use Rattle.measures.specs.contracts.update_diag.update_diag.{signature as update
 use Rattle.measures.proofs.update_diag.update_diag.Reads as update-diag
 use Rattle.measures.proofs.update_diag.update_diag.Kinds as update-diag-kinds
 
-gradient-told : {r t : GradientTold} → r.answer ≡ t.answer → r.state ≡ t.state → r ≡ t
-gradient-told {r = r} {t = t} e f =
-    ap (λ (a : Gradient). record { answer = a; state = r.state }) e ∙ ap (λ (s : State). record { answer = t.answer; state = s }) f
+-- an answer and the state beside it
+same_told : {A : Type 0} {r t : Answered A State} → r.answer ≡ t.answer → r.state ≡ t.state → r ≡ t
+same_told {A = A} {r = r} {t = t} e f =
+    ap (λ (a : Result A Refusal). record { answer = a; state = r.state }) e ∙ ap (λ (s : State). record { answer = t.answer; state = s }) f
 
-pub max_a_t_b_scaled-one_outcome : (κs : Lfts 2) (a : ArgsD max-a-t-b-scaled-signature κs) (r₁ r₂ : GradientTold) (s₁ s₂ : AtExit (ended_of 2 max-a-t-b-scaled-kinds.ps max-a-t-b-scaled-kinds.r) κs)
+pub max_a_t_b_scaled-one_outcome : (κs : Lfts 2) (a : ArgsD max-a-t-b-scaled-signature κs) (r₁ r₂ : Answered Float State) (s₁ s₂ : AtExit (ended_of 2 max-a-t-b-scaled-kinds.ps max-a-t-b-scaled-kinds.r) κs)
     → max-a-t-b-scaled.Post κs a r₁ s₁ → max-a-t-b-scaled.Post κs a r₂ s₂ → (r₁ ≡ r₂) × (s₁.1.0.now ≡ s₂.1.0.now)
 max_a_t_b_scaled-one_outcome κs a r₁ r₂ s₁ s₂ p q =
     let e = p ∙ sym q in
-    (gradient-told (gradient_of-same r₁.answer r₂.answer (ap (λ (x : Told Float). x.reply) e)) (ap (λ (x : Told Float). x.state) e), ap (λ (x : Told Float). x.store) e)
+    (same_told (reply_of-same r₁.answer r₂.answer (ap (λ (x : Told Float). x.reply) e)) (ap (λ (x : Told Float). x.state) e), ap (λ (x : Told Float). x.store) e)
 
-measured-told : {r t : MeasuredTold} → r.answer ≡ t.answer → r.state ≡ t.state → r ≡ t
-measured-told {r = r} {t = t} e f =
-    ap (λ (a : Measured). record { answer = a; state = r.state }) e ∙ ap (λ (s : State). record { answer = t.answer; state = s }) f
-
-pub a_x_norm-one_outcome : (κs : Lfts 3) (a : ArgsD a-x-norm-signature κs) (r₁ r₂ : MeasuredTold) (s₁ s₂ : AtExit (ended_of 3 a-x-norm-kinds.ps a-x-norm-kinds.r) κs)
+pub a_x_norm-one_outcome : (κs : Lfts 3) (a : ArgsD a-x-norm-signature κs) (r₁ r₂ : Answered Normed State) (s₁ s₂ : AtExit (ended_of 3 a-x-norm-kinds.ps a-x-norm-kinds.r) κs)
     → a-x-norm.Post κs a r₁ s₁ → a-x-norm.Post κs a r₂ s₂ → (r₁ ≡ r₂) × (s₁.1.0.now ≡ s₂.1.0.now)
 a_x_norm-one_outcome κs a r₁ r₂ s₁ s₂ p q =
     let e = p ∙ sym q in
-    (measured-told (measured_of-same r₁.answer r₂.answer (ap (λ (x : Told (Float × Ranges)). x.reply) e)) (ap (λ (x : Told (Float × Ranges)). x.state) e), ap (λ (x : Told (Float × Ranges)). x.store) e)
+    (same_told (measured_of-same r₁.answer r₂.answer (ap (λ (x : Told (Float × Ranges)). x.reply) e)) (ap (λ (x : Told (Float × Ranges)). x.state) e), ap (λ (x : Told (Float × Ranges)). x.store) e)
 
-place_told : {r t : PlaceTold} → r.answer ≡ t.answer → r.state ≡ t.state → r ≡ t
-place_told {r = r} {t = t} e f =
-    ap (λ (a : Place). record { answer = a; state = r.state }) e ∙ ap (λ (s : State). record { answer = t.answer; state = s }) f
-
-pub determined-one_outcome : (κs : Lfts 1) (a : ArgsD determined-signature κs) (r₁ r₂ : PlaceTold) (s₁ s₂ : AtExit (ended_of 1 determined-kinds.ps determined-kinds.r) κs)
+pub determined-one_outcome : (κs : Lfts 1) (a : ArgsD determined-signature κs) (r₁ r₂ : Answered ℕ State) (s₁ s₂ : AtExit (ended_of 1 determined-kinds.ps determined-kinds.r) κs)
     → determined.Post κs a r₁ s₁ → determined.Post κs a r₂ s₂ → (r₁ ≡ r₂) × (s₁.1.0.now ≡ s₂.1.0.now)
 determined-one_outcome κs a r₁ r₂ s₁ s₂ p q =
     let e = p ∙ sym q in
-    (place_told (place_of-same r₁.answer r₂.answer (ap (λ (x : Told ℕ). x.reply) e)) (ap (λ (x : Told ℕ). x.state) e), ap (λ (x : Told ℕ). x.store) e)
+    (same_told (reply_of-same r₁.answer r₂.answer (ap (λ (x : Told ℕ). x.reply) e)) (ap (λ (x : Told ℕ). x.state) e), ap (λ (x : Told ℕ). x.store) e)
 
-truth_told : {r t : TruthTold} → r.answer ≡ t.answer → r.state ≡ t.state → r ≡ t
-truth_told {r = r} {t = t} e f =
-    ap (λ (a : Truth). record { answer = a; state = r.state }) e ∙ ap (λ (s : State). record { answer = t.answer; state = s }) f
-
-pub is_non_singular-one_outcome : (κs : Lfts 1) (a : ArgsD is-non-singular-signature κs) (r₁ r₂ : TruthTold) (s₁ s₂ : AtExit (ended_of 1 is-non-singular-kinds.ps is-non-singular-kinds.r) κs)
+pub is_non_singular-one_outcome : (κs : Lfts 1) (a : ArgsD is-non-singular-signature κs) (r₁ r₂ : Answered Bool State) (s₁ s₂ : AtExit (ended_of 1 is-non-singular-kinds.ps is-non-singular-kinds.r) κs)
     → is-non-singular.Post κs a r₁ s₁ → is-non-singular.Post κs a r₂ s₂ → (r₁ ≡ r₂) × (s₁.1.0.now ≡ s₂.1.0.now)
 is_non_singular-one_outcome κs a r₁ r₂ s₁ s₂ p q =
     let e = p ∙ sym q in
-    (truth_told (truth_of-same r₁.answer r₂.answer (ap (λ (x : Told Bool). x.reply) e)) (ap (λ (x : Told Bool). x.state) e), ap (λ (x : Told Bool). x.store) e)
+    (same_told (reply_of-same r₁.answer r₂.answer (ap (λ (x : Told Bool). x.reply) e)) (ap (λ (x : Told Bool). x.state) e), ap (λ (x : Told Bool). x.store) e)
 
-pub above_limit-one_outcome : (κs : Lfts 2) (a : ArgsD above-limit-signature κs) (r₁ r₂ : TruthTold) (s₁ s₂ : AtExit (ended_of 2 above-limit-kinds.ps above-limit-kinds.r) κs)
+pub above_limit-one_outcome : (κs : Lfts 2) (a : ArgsD above-limit-signature κs) (r₁ r₂ : Answered Bool State) (s₁ s₂ : AtExit (ended_of 2 above-limit-kinds.ps above-limit-kinds.r) κs)
     → above-limit.Post κs a r₁ s₁ → above-limit.Post κs a r₂ s₂ → (r₁ ≡ r₂) × (s₁.1.0.now ≡ s₂.1.0.now)
 above_limit-one_outcome κs a r₁ r₂ s₁ s₂ p q =
     let e = p ∙ sym q in
-    (truth_told (truth_of-same r₁.answer r₂.answer (ap (λ (x : Told Bool). x.reply) e)) (ap (λ (x : Told Bool). x.state) e), ap (λ (x : Told Bool). x.store) e)
+    (same_told (reply_of-same r₁.answer r₂.answer (ap (λ (x : Told Bool). x.reply) e)) (ap (λ (x : Told Bool). x.state) e), ap (λ (x : Told Bool). x.store) e)
 
-scaling_told : {r t : ScalingTold} → r.answer ≡ t.answer → r.state ≡ t.state → r ≡ t
-scaling_told {r = r} {t = t} e f =
-    ap (λ (a : Scaling). record { answer = a; state = r.state }) e ∙ ap (λ (s : State). record { answer = t.answer; state = s }) f
-
-pub update_diag-one_outcome : (κs : Lfts 3) (a : ArgsD update-diag-signature κs) (r₁ r₂ : ScalingTold) (s₁ s₂ : AtExit (ended_of 3 update-diag-kinds.ps update-diag-kinds.r) κs)
+pub update_diag-one_outcome : (κs : Lfts 3) (a : ArgsD update-diag-signature κs) (r₁ r₂ : Answered Scaling State) (s₁ s₂ : AtExit (ended_of 3 update-diag-kinds.ps update-diag-kinds.r) κs)
     → update-diag.Post κs a r₁ s₁ → update-diag.Post κs a r₂ s₂
     → (r₁ ≡ r₂) × ((s₁.1.0.now ≡ s₂.1.0.now) × (s₁.1.1.1.0.now ≡ s₂.1.1.1.0.now))
 update_diag-one_outcome κs a r₁ r₂ s₁ s₂ p q =
     let e = p ∙ sym q in (
-      scaling_told (scaling_of-same r₁.answer r₂.answer (ap (λ (x : Ended Scaled). x.reply) e)) (ap (λ (x : Ended Scaled). x.state) e),
+      same_told (scaling_of-same r₁.answer r₂.answer (ap (λ (x : Ended Scaled). x.reply) e)) (ap (λ (x : Ended Scaled). x.state) e),
       (ap (λ (x : Ended Scaled). x.store) e, ap (λ (x : Ended Scaled). x.out) e),
     )

@@ -1,19 +1,13 @@
--- 01, 'Refusal numbers': each answer enum of this crate, read as answered or refused.
-use Rattle.std.specs.Prelude.{Float}
-use Rattle.leaves.specs.Reply.{Reply, answered, refused}
+-- 01, 'Refusal numbers': a scaling's answer, read as answered or refused.
+use Rattle.std.specs.Prelude.{Result, Ok, Err}
+use Rattle.leaves.specs.Reply.{Reply, answered, refused, refusal_number}
+use Rattle.leaves.specs.declared.reply.Refusal.{Refusal}
 use Rattle.measures.specs.Rescale.{Scaled, first, later}
-use Rattle.measures.specs.declared.gradient.Gradient.{Gradient}
-use Rattle.measures.specs.declared.gradient.Gradient.TheVariants as gradient
 use Rattle.measures.specs.declared.scaling.Scaling.{Scaling}
 use Rattle.measures.specs.declared.scaling.Scaling.TheVariants as scaling
 
--- the gradient's measure
-abbrev pub gradient_of : Gradient → Reply Float
-gradient_of (gradient.Measure x) = answered x
-gradient_of (gradient.Refused k) = refused k
-
 -- The first scaling alone gives xnorm and radius.
-abbrev pub scaling_of : Scaling → Reply Scaled
-scaling_of (scaling.First t f) = answered (first t f)
-scaling_of (scaling.Later f) = answered (later f)
-scaling_of (scaling.Refused k) = refused k
+abbrev pub scaling_of : Result Scaling Refusal → Reply Scaled
+scaling_of (Ok (scaling.First t f)) = answered (first t f)
+scaling_of (Ok (scaling.Later f)) = answered (later f)
+scaling_of (Err r) = refused (refusal_number r)

@@ -5,6 +5,6 @@
 pub mod above;
 pub mod gradient;
 pub mod measures;
+mod problem;
 pub mod scaling;
 pub mod update_diag;
-mod wrap;

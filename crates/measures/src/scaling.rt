@@ -10,10 +10,10 @@ ghost use Rattle.measures.specs.Rescale.{rescaled};
 ghost use Rattle.measures.specs.declared.scaling.Mode.TheVariants as modes;
 ghost use Rattle.measures.specs.inner.Reads.{parameters_read};
 
-use crate::wrap::{copy_of, norm_of};
-use leaves::norm::{Normed, Ranges, neither};
+use leaves::norm::{Normed, Ranges, enorm, neither};
 use leaves::number::{is_finite, max};
-use leaves::sizes::room16;
+use leaves::reply::Refusal;
+use leaves::sizes::filled;
 use leaves::vector::all_finite;
 
 #[derive(Clone, Copy)]
@@ -35,7 +35,6 @@ pub struct Start {
 pub enum Scaling {
     First(Start, Ranges),
     Later(Ranges),
-    Refused(u8),
 }
 
 fn first_entry(s: f64) -> f64
@@ -48,10 +47,8 @@ pub(crate) fn first_scaling(norms: &[f64], d: &mut [f64])
     requires { length norms.now ≡ length d.old }
     ensures { d.new ≡ first_scaling norms.now }
 {
-    let mut i = 0;
-    while i < norms.len() {
+    for i in 0..norms.len() {
         d[i] = first_entry(norms[i]);
-        i += 1;
     }
 }
 
@@ -59,10 +56,8 @@ pub(crate) fn later_scaling(norms: &[f64], d: &mut [f64])
     requires { length norms.now ≡ length d.old }
     ensures { d.new ≡ later_scaling norms.now d.old }
 {
-    let mut i = 0;
-    while i < norms.len() {
+    for i in 0..norms.len() {
         d[i] = max(norms[i], d[i]);
-        i += 1;
     }
 }
 
@@ -70,10 +65,8 @@ pub(crate) fn product_into(a: &[f64], b: &[f64], w: &mut [f64])
     requires { (length a.now ≡ length w.old) × (length b.now ≡ length w.old) }
     ensures { w.new ≡ product_all a.now b.now }
 {
-    let mut i = 0;
-    while i < a.len() {
+    for i in 0..a.len() {
         w[i] = a[i] * b[i];
-        i += 1;
     }
 }
 
@@ -87,7 +80,7 @@ pub(crate) fn start_by(bound: f64, xnorm: f64) -> Start
     ensures { result ≡ start_by bound xnorm }
 {
     Start {
-        xnorm: xnorm,
+        xnorm,
         radius: radius(bound, xnorm),
     }
 }
@@ -112,7 +105,7 @@ fn scaled_norm(d: &[f64], x: &[f64], w: &mut [f64]) -> Normed
     ensures seen_value { result.seen ≡ ranges (product_all d.now x.now) }
 {
     product_into(d, x, w);
-    norm_of(w)
+    enorm(w).unwrap()
 }
 
 // The new entries are worked out in d and tested first, so that a refusal leaves the lent scaling.
@@ -124,7 +117,7 @@ fn first_scaled(
     diag: &mut [f64],
     x: &[f64],
     bound: f64,
-) -> Scaling
+) -> Result<Scaling, Refusal>
     requires n_bound { (n ≤ 16) × (length norms.now ≡ n) }
     requires d_len { (length d.old ≡ n) × (length w.old ≡ n) }
     requires n_in_bounds { (n ≤ length diag.old) × (n ≤ length x.now) }
@@ -134,40 +127,43 @@ fn first_scaled(
     let s = scaled_norm(d, &x[..n], w);
     let t = start_by(bound, s.value);
     if !all_finite(d) {
-        return Scaling::Refused(8);
+        return Err(Refusal::Overflow);
     }
     if !is_usable(t) {
-        return Scaling::Refused(8);
+        return Err(Refusal::Overflow);
     }
-    copy_of(d, &mut diag[..n]);
-    let seen = s.seen;
-    Scaling::First(t, seen)
+    diag[..n].copy_from_slice(d);
+    Ok(Scaling::First(t, s.seen))
 }
 
-fn first_unscaled(n: usize, x: &[f64], bound: f64) -> Scaling
+fn first_unscaled(n: usize, x: &[f64], bound: f64) -> Result<Scaling, Refusal>
     requires { (n ≤ 16) × (n ≤ length x.now) }
     ensures { scaling_of result ≡ (rescaled modes.FirstUnscaled n [] [] x.now bound).0 }
 {
-    let s = norm_of(&x[..n]);
+    let s = enorm(&x[..n]).unwrap();
     let t = start_by(bound, s.value);
     if is_usable(t) {
-        let seen = s.seen;
-        return Scaling::First(t, seen);
+        return Ok(Scaling::First(t, s.seen));
     }
-    Scaling::Refused(8)
+    Err(Refusal::Overflow)
 }
 
-fn later_scaled(n: usize, norms: &[f64], d: &mut [f64], diag: &mut [f64]) -> Scaling
+fn later_scaled(
+    n: usize,
+    norms: &[f64],
+    d: &mut [f64],
+    diag: &mut [f64],
+) -> Result<Scaling, Refusal>
     requires { (length norms.now ≡ n) × (length d.old ≡ n) × (n ≤ length diag.old) }
     ensures { (scaling_of result, diag.new) ≡ rescaled modes.LaterScaled n norms.now diag.old [] plus_zero }
 {
-    copy_of(&diag[..n], d);
+    d.copy_from_slice(&diag[..n]);
     later_scaling(norms, d);
     if !all_finite(d) {
-        return Scaling::Refused(8);
+        return Err(Refusal::Overflow);
     }
-    copy_of(d, &mut diag[..n]);
-    Scaling::Later(neither())
+    diag[..n].copy_from_slice(d);
+    Ok(Scaling::Later(neither()))
 }
 
 pub(crate) fn rescale(
@@ -177,17 +173,17 @@ pub(crate) fn rescale(
     diag: &mut [f64],
     x: &[f64],
     bound: f64,
-) -> Scaling
+) -> Result<Scaling, Refusal>
     requires n_bound { (n ≤ 16) × (length norms.now ≡ n) }
     requires n_in_bounds { (n ≤ length diag.old) × (parameters_read mode n ≤ length x.now) }
     ensures { (scaling_of result, diag.new) ≡ rescaled mode n norms.now diag.old x.now bound }
 {
-    let mut d = room16();
-    let mut w = room16();
+    let mut d: [f64; 16] = filled(0.0);
+    let mut w: [f64; 16] = filled(0.0);
     match mode {
         Mode::FirstScaled => first_scaled(n, norms, &mut d[..n], &mut w[..n], diag, x, bound),
         Mode::FirstUnscaled => first_unscaled(n, x, bound),
         Mode::LaterScaled => later_scaled(n, norms, &mut d[..n], diag),
-        Mode::LaterUnscaled => Scaling::Later(neither()),
+        Mode::LaterUnscaled => Ok(Scaling::Later(neither())),
     }
 }

@@ -6,15 +6,16 @@ use native.Mathlib.Omega.{arith}
 use lib.ListN.{length, take, drop}
 use lib.Seq.{length-take-le}
 use lib.Ieee.{Float}
-use borrow.Author.Tests.{ne_eqb}
-use Rattle.leaves.specs.Reply.{answered, refused}
+use Rattle.leaves.specs.declared.reply.Refusal.{Refusal}
+use Rattle.leaves.specs.Reply.{answered, refused, refusal_number}
 use Rattle.leaves.specs.Tests.{Test, first_of}
-use Rattle.leaves.proofs.Refusals.{call-refused, call-worked}
+use Rattle.leaves.proofs.Refusals.{call-worked}
 use Rattle.factor.specs.State.{store_need}
 use Rattle.factor.specs.Room.{load, lay}
 use Rattle.factor.specs.Outcome.{written}
 use Rattle.factor.specs.declared.state.Held.TheVariants as held
 use Rattle.factor.specs.inner.Rooms.{Sized}
+use Rattle.factor.proofs.Answers.{refused_by}
 use Rattle.factor.proofs.Lends.{written_first}
 use Rattle.calls.specs.declared.state.State.{State}
 use Rattle.calls.specs.State.{marked_held}
@@ -44,9 +45,9 @@ module _ (st : State) (store : List Float) (order : List ℕ) (room : List Float
   pub pack-lent : first_of pack_tests_lem ≡ 0 → Lent st (length store) (min (length order) (length places)) (length room)
   pack-lent e = lent_by st (length store) (min (length order) (length places)) (length room) (form_test st order ∷ free_test st ∷ []) refl e
 
-  pub pack-refused : {c : ℕ} → c ≡ first_of pack_tests_lem → (c ≡ 0 → ⊥) → put_away (refused c) st room places ≡ pack_call st store order room places
+  pub pack-refused : (r : Refusal) → refusal_number r ≡ first_of pack_tests_lem → put_away (refused (refusal_number r)) st room places ≡ pack_call st store order room places
   unfolding pack_call
-  pack-refused {c} e h = call-refused pack-worked pack-refusal pack_tests_lem c (sym e) (ne_eqb c 0 h)
+  pack-refused r e = refused_by pack-worked pack-refusal pack_tests_lem r e
 
   pub pack_is : first_of pack_tests_lem ≡ 0 → pack-worked ≡ pack_call st store order room places
   unfolding pack_call
@@ -77,9 +78,9 @@ module _ (st : State) (room : List Float) (places : List ℕ) (store : List Floa
       lent_by st (length store) (min (length order) (length places)) (length room)
       (form_test st places ∷ finite_test st room ∷ free_test st ∷ []) refl e
 
-  pub unpack-refused : {c : ℕ} → c ≡ first_of unpack_tests_lem → (c ≡ 0 → ⊥) → put_away (refused c) st store order ≡ unpack_call st room places store order
+  pub unpack-refused : (r : Refusal) → refusal_number r ≡ first_of unpack_tests_lem → put_away (refused (refusal_number r)) st store order ≡ unpack_call st room places store order
   unfolding unpack_call
-  unpack-refused {c} e h = call-refused unpack-worked unpack-refusal unpack_tests_lem c (sym e) (ne_eqb c 0 h)
+  unpack-refused r e = refused_by unpack-worked unpack-refusal unpack_tests_lem r e
 
   pub unpack_is : first_of unpack_tests_lem ≡ 0 → unpack-worked ≡ unpack_call st room places store order
   unfolding unpack_call

@@ -1,6 +1,6 @@
-// Document 01, 'Refusal numbers, tested in this order', for the two calls here. Each answers the number of the first test that fails, 0 for
-// none.
+// Document 01, 'Refusal numbers, tested in this order', for the two calls here. Each refuses by the first test that fails.
 ghost use Rattle.std.specs.Prelude.{◌≡◌, [], ◌∷◌, ◌++◌, ◌≤◌, ltb};
+ghost use Rattle.leaves.specs.Reply.{failed_by};
 ghost use Rattle.leaves.specs.Tests.{first_of};
 ghost use Rattle.calls.specs.Tests.{marked_room_tests};
 ghost use Rattle.packing.specs.Packing.{pack_need, pack_tests, unpack_tests};
@@ -9,6 +9,7 @@ use calls::check::form;
 use calls::state::State;
 use factor::check::is_empty;
 use frozen::marks::{free_count, mark_past};
+use leaves::reply::Refusal;
 use leaves::sizes::{least, outside};
 use leaves::vector::all_finite;
 
@@ -21,44 +22,50 @@ pub(crate) fn pack_need(n: usize) -> usize
 }
 
 // 5, 2 and 3: what both calls test first. shortest: of the two lists of places.
-fn lent(st: State, store: usize, room: usize, shortest: usize) -> u8
-    ensures { result ≡ first_of (marked_room_tests st store shortest ++ ((ltb room (pack_need st.n), 3) ∷ [])) }
+fn lent(st: State, store: usize, room: usize, shortest: usize) -> Result<(), Refusal>
+    ensures { failed_by result ≡ first_of (marked_room_tests st store shortest ++ ((ltb room (pack_need st.n), 3) ∷ [])) }
 {
     let n = st.n;
-    let held = st.held;
-    if is_empty(held) {
-        return 5;
+    if is_empty(st.held) {
+        return Err(Refusal::NotHeld);
     }
     if outside(st.m, n) {
-        return 2;
+        return Err(Refusal::Sizes);
     }
     if mark_past(n, st.marks) {
-        return 2;
+        return Err(Refusal::Sizes);
     }
     if store < n * n + 4 * n {
-        return 3;
+        return Err(Refusal::Length);
     }
     if shortest < n {
-        return 3;
+        return Err(Refusal::Length);
     }
-    if room < pack_need(n) { 3 } else { 0 }
+    if room < pack_need(n) {
+        Err(Refusal::Length)
+    } else {
+        Ok(())
+    }
 }
 
 // places: how many are lent. 9 comes last.
-pub(crate) fn check_pack(st: State, store: usize, order: &[usize], room: usize, places: usize) -> u8
-    ensures { result ≡ first_of (pack_tests st store order.now room places) }
+pub(crate) fn check_pack(
+    st: State,
+    store: usize,
+    order: &[usize],
+    room: usize,
+    places: usize,
+) -> Result<(), Refusal>
+    ensures { failed_by result ≡ first_of (pack_tests st store order.now room places) }
 {
-    let c = lent(st, store, room, least(order.len(), places));
-    if c != 0 {
-        return c;
-    }
-    if form(st.n, st.marks, order) != 0 {
-        return 4;
+    lent(st, store, room, least(order.len(), places))?;
+    if form(st.n, st.marks, order).is_err() {
+        return Err(Refusal::Order);
     }
     if free_count(st.n, st.marks) == 0 {
-        9
+        Err(Refusal::AllFrozen)
     } else {
-        0
+        Ok(())
     }
 }
 
@@ -69,20 +76,21 @@ pub(crate) fn check_unpack(
     places: &[usize],
     store: usize,
     order: usize,
-) -> u8
-    ensures { result ≡ first_of (unpack_tests st room.now places.now store order) }
+) -> Result<(), Refusal>
+    ensures { failed_by result ≡ first_of (unpack_tests st room.now places.now store order) }
 {
     let n = st.n;
-    let c = lent(st, store, room.len(), least(order, places.len()));
-    if c != 0 {
-        return c;
-    }
-    if form(n, st.marks, places) != 0 {
-        return 4;
+    lent(st, store, room.len(), least(order, places.len()))?;
+    if form(n, st.marks, places).is_err() {
+        return Err(Refusal::Order);
     }
     let need = pack_need(n);
     if !all_finite(&room[..need]) {
-        return 6;
+        return Err(Refusal::NotFinite);
     }
-    if free_count(n, st.marks) == 0 { 9 } else { 0 }
+    if free_count(n, st.marks) == 0 {
+        Err(Refusal::AllFrozen)
+    } else {
+        Ok(())
+    }
 }

@@ -8,13 +8,6 @@ ghost use Rattle.packing.specs.Packing.{triangle_from};
 
 use leaves::vector::fill;
 
-pub(crate) fn copy_of(x: &[f64], y: &mut [f64])
-    requires { length x.now ≡ length y.old }
-    ensures { y.new ≡ x.now }
-{
-    leaves::vector::copy(x, y);
-}
-
 // Of the column at a its first k + 1, to b.
 pub(crate) fn pack_columns(n: usize, square: &[f64], corner: &mut [f64])
     requires n_bound { n ≤ 16 }
@@ -24,13 +17,11 @@ pub(crate) fn pack_columns(n: usize, square: &[f64], corner: &mut [f64])
 {
     let mut a = 0;
     let mut b = 0;
-    let mut k = 0;
-    while k < n {
+    for k in 0..n {
         let e = b + k + 1;
-        copy_of(&square[a..a + k + 1], &mut corner[b..e]);
+        corner[b..e].copy_from_slice(&square[a..a + k + 1]);
         a += n;
         b = e;
-        k += 1;
     }
 }
 
@@ -40,7 +31,7 @@ fn unpack_column(src: &[f64], column: &mut [f64])
     ensures { column.new ≡ src.now ++ zeros (length column.old - length src.now) }
 {
     let w = src.len();
-    copy_of(src, &mut column[..w]);
+    column[..w].copy_from_slice(src);
     fill(0.0, &mut column[w..]);
 }
 
@@ -52,12 +43,10 @@ pub(crate) fn unpack_columns(n: usize, corner: &[f64], square: &mut [f64])
 {
     let mut a = 0;
     let mut b = 0;
-    let mut k = 0;
-    while k < n {
+    for k in 0..n {
         let e = b + k + 1;
         unpack_column(&corner[b..e], &mut square[a..a + n]);
         a += n;
         b = e;
-        k += 1;
     }
 }

@@ -1,14 +1,14 @@
 // Document 02, #107: packing.
 ghost use Rattle.std.specs.Prelude.{◌≡◌, ◌<◌, ◌≤◌, length};
-ghost use Rattle.leaves.specs.Reply.{done_of};
+ghost use Rattle.leaves.specs.Reply.{reply_of};
 ghost use Rattle.factor.specs.Room.{load};
 ghost use Rattle.factor.specs.inner.Rooms.{Sized};
 ghost use Rattle.packing.specs.Packing.{pack_need, packed_of, first_places, put_away, pack_call};
 
 use crate::check::{check_pack, pack_need};
-use crate::corner::{copy_of, pack_columns};
-use calls::state::{State, Told};
-use leaves::reply::Done;
+use crate::corner::pack_columns;
+use calls::state::State;
+use leaves::reply::Told;
 
 // qt_b and the column norms stand side by side in a store, and so they do in the room.
 fn pack_in(n: usize, store: &[f64], room: &mut [f64])
@@ -20,7 +20,7 @@ fn pack_in(n: usize, store: &[f64], room: &mut [f64])
     let p = n * n;
     let e = p + 2 * n;
     pack_columns(n, &store[..p], &mut room[..t]);
-    copy_of(&store[p..e], &mut room[t..]);
+    room[t..].copy_from_slice(&store[p..e]);
 }
 
 // The first n of an order list.
@@ -28,11 +28,7 @@ pub(crate) fn place(n: usize, from: &[usize], to: &mut [usize])
     requires { (n ≤ length from.now) × (n ≤ length to.old) }
     ensures { to.new ≡ first_places n from.now to.old }
 {
-    let mut k = 0;
-    while k < n {
-        to[k] = from[k];
-        k += 1;
-    }
+    to[..n].copy_from_slice(&from[..n]);
 }
 
 // Puts a factored problem away.
@@ -49,13 +45,12 @@ pub fn pack(
     order: &[usize],
     room: &mut [f64],
     places: &mut [usize],
-) -> Told
-    ensures { put_away (done_of result.answer) result.state room.new places.new ≡ pack_call st store.now order.now room.old places.old }
+) -> Told<(), State>
+    ensures { put_away (reply_of result.answer) result.state room.new places.new ≡ pack_call st store.now order.now room.old places.old }
 {
-    let c = check_pack(st, store.len(), order, room.len(), places.len());
-    if c != 0 {
+    if let Err(no) = check_pack(st, store.len(), order, room.len(), places.len()) {
         return Told {
-            answer: Done::Refused(c),
+            answer: Err(no),
             state: st,
         };
     }
@@ -64,7 +59,7 @@ pub fn pack(
     pack_in(n, store, &mut room[..need]);
     place(n, order, places);
     Told {
-        answer: Done::Written,
+        answer: Ok(()),
         state: st,
     }
 }

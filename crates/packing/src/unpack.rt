@@ -1,17 +1,17 @@
 // Document 02, #107: unpacking.
 ghost use Rattle.std.specs.Prelude.{◌≡◌, ◌<◌, length, drop};
-ghost use Rattle.leaves.specs.Reply.{done_of};
+ghost use Rattle.leaves.specs.Reply.{reply_of};
 ghost use Rattle.factor.specs.Room.{lay};
 ghost use Rattle.factor.specs.State.{store_need};
 ghost use Rattle.factor.specs.inner.Rooms.{Sized};
 ghost use Rattle.packing.specs.Packing.{pack_need, unpacked_room, put_away, unpack_call};
 
 use crate::check::{check_unpack, pack_need};
-use crate::corner::{copy_of, unpack_columns};
+use crate::corner::unpack_columns;
 use crate::pack::place;
-use calls::state::{State, Told};
+use calls::state::State;
 use factor::state::Held;
-use leaves::reply::Done;
+use leaves::reply::Told;
 use leaves::vector::fill;
 
 // 'as after factoring': +0 below R, in l_diag and in work
@@ -23,7 +23,7 @@ fn unpack_in(n: usize, room: &[f64], store: &mut [f64])
     let t = n * (n + 1) / 2;
     let p = n * n;
     unpack_columns(n, &room[..t], &mut store[..p]);
-    copy_of(&room[t..], &mut store[p..p + 2 * n]);
+    store[p..p + 2 * n].copy_from_slice(&room[t..]);
     fill(0.0, &mut store[p + 2 * n..p + 4 * n]);
 }
 
@@ -40,13 +40,12 @@ pub fn unpack(
     places: &[usize],
     store: &mut [f64],
     order: &mut [usize],
-) -> Told
-    ensures { put_away (done_of result.answer) result.state store.new order.new ≡ unpack_call st room.now places.now store.old order.old }
+) -> Told<(), State>
+    ensures { put_away (reply_of result.answer) result.state store.new order.new ≡ unpack_call st room.now places.now store.old order.old }
 {
-    let c = check_unpack(st, room, places, store.len(), order.len());
-    if c != 0 {
+    if let Err(no) = check_unpack(st, room, places, store.len(), order.len()) {
         return Told {
-            answer: Done::Refused(c),
+            answer: Err(no),
             state: st,
         };
     }
@@ -55,12 +54,10 @@ pub fn unpack(
     unpack_in(n, &room[..need], store);
     place(n, places, order);
     Told {
-        answer: Done::Written,
+        answer: Ok(()),
         state: State {
-            m: st.m,
-            n: n,
             held: Held::Nothing,
-            marks: st.marks,
+            ..st
         },
     }
 }

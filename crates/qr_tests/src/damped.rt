@@ -23,9 +23,8 @@ const R_AND_L: [f64; 9] = [
 
 pub(crate) fn test_elimate_diag_and_l() -> bool {
     let p = side::damped(problem::first(), &DIAG_1);
-    let store = p.store;
     let e = default_epsilon();
-    near::all(store, 15, &L_DIAG, e) & near::all(store, 0, &R_AND_L, e)
+    near::all(&p.store, 15, &L_DIAG, e) & near::all(&p.store, 0, &R_AND_L, e)
 }
 
 // test_lls_x_1
@@ -33,8 +32,7 @@ const STEP_1: [f64; 3] = [0.459330143540669, 0.918660287081341, -0.2870813397129
 
 pub(crate) fn test_lls_x_1() -> bool {
     let p = side::damped(problem::first(), &DIAG_1);
-    let out = p.out;
-    near::all(out, 0, &STEP_1, 1e-14)
+    near::all(&p.out, 0, &STEP_1, 1e-14)
 }
 
 // test_lls_x_2: R is singular, L is not.
@@ -52,9 +50,7 @@ const STEP_2: [f64; 3] = [-0.000277544878320, -0.046225239392197, 0.266720628065
 
 pub(crate) fn test_lls_x_2() -> bool {
     let p = problem::lls(4, 3, &SINGULAR, &RESIDUALS_2);
-    let store = p.store;
-    let r = near::diagonal(store, &R_DIAG_2, default_epsilon());
+    let r = near::diagonal(&p.store, &R_DIAG_2, default_epsilon());
     let q = side::damped(p, &DIAG_2);
-    let out = q.out;
-    r & near::all(out, 0, &STEP_2, 1e-14)
+    r & near::all(&q.out, 0, &STEP_2, 1e-14)
 }

@@ -2,7 +2,6 @@
 // reflection vectors are not shown: of the Rust's `qr.qr` the part above the diagonal is compared.
 use crate::near::default_epsilon;
 use crate::{near, problem};
-use leaves::reply::Place;
 use measures::measures::determined;
 
 // test_pivoted_qr
@@ -18,14 +17,12 @@ const SMALL_ABOVE_2: [f64; 2] = [-0.18490006540840964, 1.9503830421256012];
 
 pub(crate) fn test_pivoted_qr() -> bool {
     let p = problem::small();
-    let store = p.store;
-    let order = p.order;
     let e = default_epsilon();
-    let a = near::places(order, &SMALL_ORDER);
-    let b = near::all(store, 12, &SMALL_NORMS, e);
-    let c = near::diagonal(store, &SMALL_DIAGONAL, e);
-    let d = near::all(store, 3, &SMALL_ABOVE_1, 1e-14);
-    let f = near::all(store, 6, &SMALL_ABOVE_2, 1e-14);
+    let a = near::places(&p.order, &SMALL_ORDER);
+    let b = near::all(&p.store, 12, &SMALL_NORMS, e);
+    let c = near::diagonal(&p.store, &SMALL_DIAGONAL, e);
+    let d = near::all(&p.store, 3, &SMALL_ABOVE_1, 1e-14);
+    let f = near::all(&p.store, 6, &SMALL_ABOVE_2, 1e-14);
     a & b & c & d & f
 }
 
@@ -34,8 +31,7 @@ const BRANCHES_DIAGONAL: [f64; 3] = [-67.683085036070864, -55.250741178610944, 0
 
 pub(crate) fn test_pivoted_qr_more_branches() -> bool {
     let p = problem::second();
-    let store = p.store;
-    near::diagonal(store, &BRANCHES_DIAGONAL, 1e-14)
+    near::diagonal(&p.store, &BRANCHES_DIAGONAL, 1e-14)
 }
 
 // test_pivoted_qr_big_rank1: entry (i, j) is (i + 1)·(j + 1). The expected values are those of MINPACK's QRFAC.
@@ -59,27 +55,21 @@ const RANK1_ABOVE_4: [f64; 4] = [-19.621416870348583, 0.0, 0.0, 0.0];
 
 pub(crate) fn test_pivoted_qr_big_rank1() -> bool {
     let p = problem::lls(10, 5, &RANK1, &NO_RESIDUALS);
-    let store = p.store;
     let e = default_epsilon();
-    let a = near::diagonal(store, &RANK1_DIAGONAL, e);
-    let b = near::all(store, 5, &RANK1_ABOVE_1, e);
-    let c = near::all(store, 10, &RANK1_ABOVE_2, e);
-    let d = near::all(store, 15, &RANK1_ABOVE_3, e);
-    let f = near::all(store, 20, &RANK1_ABOVE_4, e);
+    let a = near::diagonal(&p.store, &RANK1_DIAGONAL, e);
+    let b = near::all(&p.store, 5, &RANK1_ABOVE_1, e);
+    let c = near::all(&p.store, 10, &RANK1_ABOVE_2, e);
+    let d = near::all(&p.store, 15, &RANK1_ABOVE_3, e);
+    let f = near::all(&p.store, 20, &RANK1_ABOVE_4, e);
     a & b & c & d & f
 }
 
 // 02, #104: for that matrix the report must say one. It is no test of qr.rs, which has no such count.
 pub(crate) fn determined_big_rank1() -> bool {
     let p = problem::lls(10, 5, &RANK1, &NO_RESIDUALS);
-    let state = p.state;
     let mut store = p.store;
-    let t = determined(state, &mut store);
-    let answer = t.answer;
-    match answer {
-        Place::At(k) => k == 1,
-        Place::Refused(_) => false,
-    }
+    let t = determined(p.state, &mut store);
+    matches!(t.answer, Ok(1))
 }
 
 // test_into_lls: from Python's lmmin and SciPy's MINPACK.
@@ -87,6 +77,5 @@ const SMALL_QT_B: [f64; 3] = [-3.790451340872398, 1.4266308163005572, 2.33483940
 
 pub(crate) fn test_into_lls() -> bool {
     let p = problem::small();
-    let store = p.store;
-    near::all(store, 9, &SMALL_QT_B, 1e-14)
+    near::all(&p.store, 9, &SMALL_QT_B, 1e-14)
 }

@@ -1,30 +1,20 @@
 // The tests of qr.rs on the zero solve and on a triangle that is held.
 use crate::near::default_epsilon;
-use crate::{near, problem, room, side};
-use factor::answer::Truth;
+use crate::{near, problem, side};
 use factor::cholesky::{mul_qt_b, solve};
 use factor::state::{Held, State};
+use leaves::sizes::filled;
 use measures::measures::is_non_singular;
-
-fn affirmed(answer: Truth) -> bool {
-    match answer {
-        Truth::Is(yes) => yes,
-        Truth::Refused(k) => false,
-    }
-}
 
 // test_lls_zero_diagonal
 const STEP: [f64; 3] = [87.0, -38.0, 10.0];
 
 pub(crate) fn test_lls_zero_diagonal() -> bool {
     let p = problem::third();
-    let state = p.state;
     let mut store = p.store;
-    let t = is_non_singular(state, &mut store);
-    let answer = t.answer;
+    let t = is_non_singular(p.state, &mut store);
     let q = side::zero(p);
-    let out = q.out;
-    affirmed(answer) & near::all(out, 0, &STEP, default_epsilon())
+    t.answer.unwrap_or(false) & near::all(&q.out, 0, &STEP, default_epsilon())
 }
 
 // The two tests of the Rust's `CholeskyFactor` build one by hand: here the store is written by hand. Behind the square stand qt_b, the
@@ -44,11 +34,7 @@ fn upper() -> [f64; 21] {
 }
 
 fn of_three(held: Held) -> State {
-    State {
-        m: 3,
-        n: 3,
-        held: held,
-    }
+    State { m: 3, n: 3, held }
 }
 
 // Of both tests.
@@ -64,11 +50,11 @@ fn both(
 ) -> bool {
     let st = of_three(held);
     let mut store = by_hand;
-    let mut out = room::vector();
+    let mut out: [f64; 64] = filled(0.0);
     mul_qt_b(st, &mut store, &mut out);
-    let a = near::all(out, 0, product, default_epsilon());
+    let a = near::all(&out, 0, product, default_epsilon());
     solve(st, &mut store, order, &RHS, &mut out);
-    a & near::all(out, 0, solution, default_epsilon())
+    a & near::all(&out, 0, solution, default_epsilon())
 }
 
 // test_cholesky_lower

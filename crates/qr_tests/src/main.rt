@@ -16,7 +16,6 @@ mod measured;
 mod near;
 mod problem;
 mod report;
-mod room;
 mod side;
 mod wide;
 

@@ -1,23 +1,7 @@
 // The tests of qr.rs on the gradient's measure and on the norm of Ax.
 use crate::near::default_epsilon;
 use crate::{near, problem};
-use leaves::reply::Measured;
-use measures::gradient::Gradient;
 use measures::measures::{a_x_norm, max_a_t_b_scaled};
-
-fn measures(answer: Gradient, expected: f64, epsilon: f64) -> bool {
-    match answer {
-        Gradient::Measure(x) => near::relative_eq(x, expected, epsilon),
-        Gradient::Refused(k) => false,
-    }
-}
-
-fn is(answer: Measured, expected: f64, epsilon: f64) -> bool {
-    match answer {
-        Measured::Is(x, _) => near::relative_eq(x, expected, epsilon),
-        Measured::Refused(k) => false,
-    }
-}
 
 // test_column_max_norm. Its second Jacobian has a NaN, for which the Rust answers None: here the factoring refuses it with 6 and
 // there is no measure to look at. The other two are run. The zero Jacobian's measure is compared with `assert_eq!`, so the bound is 0.
@@ -31,12 +15,10 @@ const ZERO: [f64; 12] = [0.0, 0.0, 0.0, 0.0, 0.0, 0.0, 0.0, 0.0, 0.0, 0.0, 0.0, 
 
 fn gradient_is(jacobian: &[f64], expected: f64, epsilon: f64) -> bool {
     let p = problem::lls(4, 3, jacobian, &B);
-    let state = p.state;
     let mut store = p.store;
-    let order = p.order;
-    let t = max_a_t_b_scaled(state, &mut store, &order, 1.0);
-    let answer = t.answer;
-    measures(answer, expected, epsilon)
+    let t = max_a_t_b_scaled(p.state, &mut store, &p.order, 1.0);
+    t.answer
+        .is_ok_and(|x| near::relative_eq(x, expected, epsilon))
 }
 
 pub(crate) fn test_column_max_norm() -> bool {
@@ -52,10 +34,9 @@ const X: [f64; 3] = [1.0, 8.0, 3.0];
 
 pub(crate) fn test_a_x_norm() -> bool {
     let p = problem::lls(4, 3, &A, &NO_RESIDUALS);
-    let state = p.state;
     let mut store = p.store;
-    let order = p.order;
-    let t = a_x_norm(state, &mut store, &order, &X);
-    let answer = t.answer;
-    is(answer, leaves::root::sqrt(6710.0), default_epsilon())
+    let t = a_x_norm(p.state, &mut store, &p.order, &X);
+    t.answer.is_ok_and(|x| {
+        near::relative_eq(x.value, leaves::root::sqrt(6710.0), default_epsilon())
+    })
 }

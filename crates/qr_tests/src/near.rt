@@ -25,8 +25,8 @@ pub(crate) fn default_epsilon() -> f64 {
 }
 
 // A place past the end reads as an infinity, which is near no number that is expected.
-fn at(v: [f64; 64], i: usize) -> f64 {
-    if i < 64 {
+fn at(v: &[f64], i: usize) -> f64 {
+    if i < v.len() {
         v[i]
     } else {
         f64::from_bits(0x7ff0_0000_0000_0000)
@@ -34,42 +34,29 @@ fn at(v: [f64; 64], i: usize) -> f64 {
 }
 
 // Whether v, from a place on, is near all of `expected`.
-pub(crate) fn all(v: [f64; 64], from: usize, expected: &[f64], epsilon: f64) -> bool {
-    let mut good = true;
-    let mut i: usize = 0;
-    while i < expected.len() {
-        let x = at(v, std::num::wrapping_add_usize(from, i));
-        good = good & relative_eq(x, expected[i], epsilon);
-        i += 1;
-    }
-    good
+pub(crate) fn all(v: &[f64], from: usize, expected: &[f64], epsilon: f64) -> bool {
+    expected.iter().enumerate().all(|(i, y)| {
+        relative_eq(at(v, std::num::wrapping_add_usize(from, i)), *y, epsilon)
+    })
 }
 
 // Whether the diagonal of the square that a store begins with is near all of `expected`, which has a number for each column.
-pub(crate) fn diagonal(store: [f64; 64], expected: &[f64], epsilon: f64) -> bool {
+pub(crate) fn diagonal(store: &[f64], expected: &[f64], epsilon: f64) -> bool {
     let apart = std::num::wrapping_add_usize(expected.len(), 1);
     let mut good = true;
     let mut from: usize = 0;
-    let mut i: usize = 0;
-    while i < expected.len() {
-        good = good & relative_eq(at(store, from), expected[i], epsilon);
+    for y in expected {
+        good = good & relative_eq(at(store, from), *y, epsilon);
         from = std::num::wrapping_add_usize(from, apart);
-        i += 1;
     }
     good
 }
 
 // A place past the end reads as 99, which is no column.
-fn place(v: [usize; 8], i: usize) -> usize {
-    if i < 8 { v[i] } else { 99 }
+fn place(v: &[usize], i: usize) -> usize {
+    if i < v.len() { v[i] } else { 99 }
 }
 
-pub(crate) fn places(v: [usize; 8], expected: &[usize]) -> bool {
-    let mut good = true;
-    let mut i: usize = 0;
-    while i < expected.len() {
-        good = good & (place(v, i) == expected[i]);
-        i += 1;
-    }
-    good
+pub(crate) fn places(v: &[usize], expected: &[usize]) -> bool {
+    expected.iter().enumerate().all(|(i, k)| place(v, i) == *k)
 }

@@ -1,6 +1,6 @@
 // Problems that several tests of qr.rs share, and the calls as the tests make them.
-use crate::room;
-use crate::side::{Side, factored};
+use crate::side::Side;
+use leaves::sizes::filled;
 
 // The Jacobian of test_pivoted_qr and test_into_lls, 4 by 3.
 const SMALL: [f64; 12] = [2.0, 0.0, 0.0, 1.0, 1.0, 10.0, 4.0, 0.0, 4.0, -1.0, 0.5, 0.0];
@@ -21,13 +21,19 @@ const RESIDUALS: [f64; 4] = [1.0, 2.0, 5.0, 4.0];
 
 // PivotedQR::new with into_least_squares_diagonal_problem. A refusal leaves the empty state, which every later call refuses.
 pub(crate) fn lls(m: usize, n: usize, jacobian: &[f64], residuals: &[f64]) -> Side {
-    let mut store = room::vector();
-    let mut order = room::order();
-    let mut bench = room::vector();
+    let mut store: [f64; 64] = filled(0.0);
+    let mut order: [usize; 8] = filled(0);
+    let mut bench: [f64; 64] = filled(0.0);
     let t = factor::pivoted_qr::pivoted_qr(
         m, n, jacobian, residuals, &mut store, &mut order, &mut bench,
     );
-    factored(t, store, order, room::vector())
+    Side {
+        state: t.state,
+        store,
+        order,
+        out: filled(0.0),
+        good: t.answer.is_ok(),
+    }
 }
 
 pub(crate) fn small() -> Side {

@@ -1,11 +1,11 @@
-// A problem with its rooms, which goes from call to call by value: a call that is lent many slices at once takes the proof check long.
-use crate::room;
+// The problems of the tests, from call to call.
 use factor::cholesky::{mul_qt_b, solve};
 use factor::least_squares::{solve_with_diagonal, solve_with_zero_diagonal};
-use factor::state::{FactorTold, State, Told};
-use leaves::reply::{Done, Ranged};
+use factor::state::State;
+use leaves::sizes::filled;
 
-// `out` is what the last call wrote, and `good` whether it was not refused.
+// A problem with its rooms, which goes from call to call by value: a call that is lent many slices at once takes the proof check long. The
+// largest problem is 10 by 5: a store of 45 numbers, a bench of 60. `out` is what the last call wrote, and `good` whether it was not refused.
 #[derive(Clone, Copy)]
 pub(crate) struct Side {
     pub(crate) state: State,
@@ -15,76 +15,54 @@ pub(crate) struct Side {
     pub(crate) good: bool,
 }
 
-fn seen(answer: Ranged) -> bool {
-    match answer {
-        Ranged::Seen(f) => true,
-        Ranged::Refused(k) => false,
-    }
-}
-
-fn written(answer: Done) -> bool {
-    match answer {
-        Done::Written => true,
-        Done::Refused(k) => false,
-    }
-}
-
-pub(crate) fn told(t: Told, store: [f64; 64], order: [usize; 8], out: [f64; 64]) -> Side {
-    let state = t.state;
-    let answer = t.answer;
-    Side {
-        state: state,
-        store: store,
-        order: order,
-        out: out,
-        good: written(answer),
-    }
-}
-
-pub(crate) fn factored(t: FactorTold, store: [f64; 64], order: [usize; 8], out: [f64; 64]) -> Side {
-    let state = t.state;
-    let answer = t.answer;
-    Side {
-        state: state,
-        store: store,
-        order: order,
-        out: out,
-        good: seen(answer),
-    }
-}
-
 pub(crate) fn damped(p: Side, diag: &[f64]) -> Side {
-    let state = p.state;
     let mut store = p.store;
-    let order = p.order;
-    let mut out = room::vector();
-    let t = solve_with_diagonal(state, &mut store, &order, diag, &mut out);
-    told(t, store, order, out)
+    let mut out: [f64; 64] = filled(0.0);
+    let t = solve_with_diagonal(p.state, &mut store, &p.order, diag, &mut out);
+    Side {
+        state: t.state,
+        store,
+        out,
+        good: t.answer.is_ok(),
+        ..p
+    }
 }
 
 pub(crate) fn zero(p: Side) -> Side {
-    let state = p.state;
     let mut store = p.store;
-    let order = p.order;
-    let mut out = room::vector();
-    let t = solve_with_zero_diagonal(state, &mut store, &order, &mut out);
-    told(t, store, order, out)
+    let mut out: [f64; 64] = filled(0.0);
+    let t = solve_with_zero_diagonal(p.state, &mut store, &p.order, &mut out);
+    Side {
+        state: t.state,
+        store,
+        out,
+        good: t.answer.is_ok(),
+        ..p
+    }
 }
 
 pub(crate) fn solved(p: Side, rhs: &[f64]) -> Side {
-    let state = p.state;
     let mut store = p.store;
-    let order = p.order;
-    let mut out = room::vector();
-    let t = solve(state, &mut store, &order, rhs, &mut out);
-    told(t, store, order, out)
+    let mut out: [f64; 64] = filled(0.0);
+    let t = solve(p.state, &mut store, &p.order, rhs, &mut out);
+    Side {
+        state: t.state,
+        store,
+        out,
+        good: t.answer.is_ok(),
+        ..p
+    }
 }
 
 pub(crate) fn multiplied(p: Side) -> Side {
-    let state = p.state;
     let mut store = p.store;
-    let order = p.order;
-    let mut out = room::vector();
-    let t = mul_qt_b(state, &mut store, &mut out);
-    told(t, store, order, out)
+    let mut out: [f64; 64] = filled(0.0);
+    let t = mul_qt_b(p.state, &mut store, &mut out);
+    Side {
+        state: t.state,
+        store,
+        out,
+        good: t.answer.is_ok(),
+        ..p
+    }
 }

@@ -28,27 +28,21 @@ struct Pair {
     good: bool,
 }
 
-fn near_all(a: [f64; 64], b: [f64; 64]) -> bool {
-    near::all(a, 0, &b, default_epsilon())
+fn near_all(a: &[f64], b: &[f64]) -> bool {
+    near::all(a, 0, b, default_epsilon())
 }
 
 // The problems' whole stores, and their order lists.
 fn rooms_alike(one: Side, two: Side) -> bool {
-    let a = one.store;
-    let b = two.store;
-    let order = one.order;
-    let other = two.order;
-    near_all(a, b) & near::places(order, &other)
+    near_all(&one.store, &two.store) & near::places(&one.order, &two.order)
 }
 
 // What the last calls wrote is alike, and neither was refused.
 fn pair_of(one: Side, two: Side, good: bool) -> Pair {
-    let a = one.out;
-    let b = two.out;
     Pair {
-        one: one,
-        two: two,
-        good: good & one.good & two.good & near_all(a, b),
+        one,
+        two,
+        good: good & one.good & two.good & near_all(&one.out, &two.out),
     }
 }
 
@@ -76,28 +70,23 @@ const RHS_2: [f64; 4] = [0.851, 0.21, 0.629, 0.714];
 
 // The product, with the rooms as they were before it: nothing of them but work changes.
 fn multiplied(p: Pair) -> Pair {
-    let one = p.one;
-    let two = p.two;
-    let rooms = rooms_alike(one, two);
-    pair_of(side::multiplied(one), side::multiplied(two), p.good & rooms)
+    let rooms = rooms_alike(p.one, p.two);
+    pair_of(
+        side::multiplied(p.one),
+        side::multiplied(p.two),
+        p.good & rooms,
+    )
 }
 
 // A damped solve and what it holds.
 fn damping(p: Pair, diag: &[f64], rhs: &[f64]) -> Pair {
-    let one = p.one;
-    let two = p.two;
-    let q = pair_of(side::damped(one, diag), side::damped(two, diag), p.good);
-    let three = q.one;
-    let four = q.two;
-    multiplied(pair_of(side::solved(three, rhs), side::solved(four, rhs), q.good))
+    let q = pair_of(side::damped(p.one, diag), side::damped(p.two, diag), p.good);
+    multiplied(pair_of(side::solved(q.one, rhs), side::solved(q.two, rhs), q.good))
 }
 
 // The zero solve and what it holds.
 fn ending(p: Pair) -> bool {
-    let one = p.one;
-    let two = p.two;
-    let q = multiplied(pair_of(side::zero(one), side::zero(two), p.good));
-    q.good
+    multiplied(pair_of(side::zero(p.one), side::zero(p.two), p.good)).good
 }
 
 pub(crate) fn test_lls_wide_matrix() -> bool {

@@ -3,13 +3,13 @@
 // reader asks the state that it was made with: without it, it would answer straight after a factoring, where document 01 refuses 5 (case
 // L). Its calls write the output and nothing else: what they work with is their own, so the store is lent shared.
 ghost use Rattle.std.specs.Prelude.{◌≡◌};
-ghost use Rattle.leaves.specs.Reply.{done_of};
+ghost use Rattle.leaves.specs.Reply.{reply_of};
 ghost use Rattle.factor.specs.Outcome.{read};
 ghost use Rattle.calls.specs.HeldCalls.{marked_solve, marked_mul, marked_read};
 
 use calls::cholesky::{mul_read, solve_read};
 use calls::state::State;
-use leaves::reply::Done;
+use leaves::reply::Refusal;
 
 // The lent store from its square on, and the state of the problem that it holds.
 #[derive(Clone, Copy)]
@@ -36,8 +36,8 @@ pub fn new<'a>(square: &'a [f64], st: State) -> CholeskyFactor<'a>
 // pivot order, and +0 past the free count.
 // Refused 5 for a reader of an empty state, 2 for its sizes or a mark past n, 3 for a slice that is too short, 5 where nothing is held, 9 where
 // no column is free, 8 where a number of the product is not finite: out as it was.
-pub fn mul_qt_b<'a, 'b>(f: CholeskyFactor<'a>, out: &'b mut [f64]) -> Done
-    ensures { read (done_of result) out.new ≡ marked_read (marked_mul f.entry.state f.entry.square.now out.old) }
+pub fn mul_qt_b<'a, 'b>(f: CholeskyFactor<'a>, out: &'b mut [f64]) -> Result<(), Refusal>
+    ensures { read (reply_of result) out.new ≡ marked_read (marked_mul f.entry.state f.entry.square.now out.old) }
 {
     mul_read(f.state, f.square, out)
 }
@@ -54,8 +54,8 @@ pub fn solve<'a, 'b, 'c, 'd>(
     order: &'b [usize],
     rhs: &'c [f64],
     out: &'d mut [f64],
-) -> Done
-    ensures { read (done_of result) out.new ≡ marked_read (marked_solve f.entry.state order.now rhs.now f.entry.square.now out.old) }
+) -> Result<(), Refusal>
+    ensures { read (reply_of result) out.new ≡ marked_read (marked_solve f.entry.state order.now rhs.now f.entry.square.now out.old) }
 {
     solve_read(f.state, f.square, order, rhs, out)
 }
@@ -68,8 +68,8 @@ pub fn solve<'a, 'b, 'c, 'd>(
 // are the product, in pivot order, and +0 past the free count.
 // Refused as `mul_qt_b` is: 5 for an empty state, 2 for its sizes or a mark past n, 3 for a slice that is too short, 5 where nothing is held,
 // 9 where no column is free, 8 where a number of the product is not finite: out as it was.
-pub fn mul_plain(square: &[f64], st: State, out: &mut [f64]) -> Done
-    ensures { read (done_of result) out.new ≡ marked_read (marked_mul st square.now out.old) }
+pub fn mul_plain(square: &[f64], st: State, out: &mut [f64]) -> Result<(), Refusal>
+    ensures { read (reply_of result) out.new ≡ marked_read (marked_mul st square.now out.old) }
 {
     mul_qt_b(new(square, st), out)
 }
@@ -81,8 +81,14 @@ pub fn mul_plain(square: &[f64], st: State, out: &mut [f64]) -> Done
 // Refused as `solve` is: 5 for an empty state, 2 for its sizes or a mark past n, 3 for a slice that is too short, 4 for an order list that is
 // none, 5 where nothing is held, 6 for an entry of rhs that is not finite, a frozen column's too, 9 where no column is free, 8 where a number
 // of the answer is not finite: out as it was.
-pub fn solve_plain(square: &[f64], st: State, order: &[usize], rhs: &[f64], out: &mut [f64]) -> Done
-    ensures { read (done_of result) out.new ≡ marked_read (marked_solve st order.now rhs.now square.now out.old) }
+pub fn solve_plain(
+    square: &[f64],
+    st: State,
+    order: &[usize],
+    rhs: &[f64],
+    out: &mut [f64],
+) -> Result<(), Refusal>
+    ensures { read (reply_of result) out.new ≡ marked_read (marked_solve st order.now rhs.now square.now out.old) }
 {
     solve(new(square, st), order, rhs, out)
 }

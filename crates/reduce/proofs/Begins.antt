@@ -1,14 +1,19 @@
 -- What a reduction starts from. Assumes nothing.
 use mathlib.Core.Path.{◌≡◌, refl, sym, ap, ◌∙◌}
 use mathlib.Core.List.{List, [], ◌∷◌, map}
-use Prim.Native.Nat.{ℕ, zero, suc, ◌+◌, ◌*◌, ◌<◌}
+use Prim.Native.Nat.{ℕ, zero, suc, ◌+◌, ◌*◌, ◌<◌, ◌≤◌}
 use native.Mathlib.Nat.{mul_comm, le_refl, not-suc-le-zero, le_of_suc-le-suc}
 use native.Mathlib.Numerals.{add-one}
 use native.Mathlib.Omega.{arith}
 use lib.ListN.{length, get_or, take, drop}
 use lib.Seq.{length-take-le, take-suc, get_or-take}
 use lib.Ieee.{Float, nan}
-use Rattle.leaves.specs.Norm.{norm, either, ranges, ranges_of}
+use Rattle.std.specs.Prelude.{Result, Ok}
+use Rattle.leaves.specs.Reply.{measured_of}
+use Rattle.leaves.specs.declared.reply.Refusal.{Refusal}
+use Rattle.leaves.specs.declared.norm.Normed.{Normed}
+use Rattle.leaves.specs.Norm.{norm, either, ranges, ranges_of, enorm}
+use Rattle.leaves.proofs.Norms.{enorm_fits}
 use Rattle.leaves.specs.declared.norm.Ranges.{Ranges}
 use Rattle.leaves.proofs.Seen.{ranges_of_last}
 use Rattle.leaves.specs.Loop.{count_from}
@@ -28,6 +33,13 @@ pub norms_at : (cs : List (List Float)) (i : ℕ) → i < length cs → get_or (
 norms_at [] i h = absurd (not-suc-le-zero h)
 norms_at (c ∷ cs) zero h = refl
 norms_at (c ∷ cs) (suc i) h = norms_at cs i (le_of_suc-le-suc h)
+
+-- a norm of at most 128 numbers, unwrapped
+pub norm_told : (v : List Float) (r : Result Normed Refusal) {t : Normed} → length v ≤ 128 → measured_of r ≡ enorm v → r ≡ Ok t → (t.value ≡ norm v) × (t.seen ≡ ranges v)
+norm_told v r {t = t} l e w =
+    let f = enorm_fits v r l e in
+    let s : t ≡ record { value = norm v; seen = ranges v } = cc in
+    (ap (λ (x : Normed). x.value) s, ap (λ (x : Normed). x.seen) s)
 
 -- the flags of the columns so far, and of the next
 pub measured_next : (cs : List (List Float)) (k : ℕ) (seen : Ranges) → k < length cs → seen ≡ ranges_of (take k cs) → either seen (ranges (get_or cs k [])) ≡ ranges_of (take (k + 1) cs)

@@ -10,7 +10,9 @@ use lib.ListN.{length, get_or, take, drop, length-append}
 use lib.Seq.{length-take-le, length_front, take_at, drop_at, take-add, take_all}
 use lib.Ieee.{Float}
 use borrow.Author.Tests.{eqb-true, eq-eqb, ne_eqb, not-false}
-use Rattle.leaves.specs.Reply.{Reply, answered, refused}
+use Rattle.leaves.specs.Reply.{Reply, answered, refused, refusal_number}
+use Rattle.leaves.specs.declared.reply.Refusal.{Refusal}
+use Rattle.leaves.proofs.Replies.{refusal_number-some}
 use Rattle.leaves.specs.Tests.{first_of, outside}
 use Rattle.leaves.specs.Norm.{norm, either, ranges_of}
 use Rattle.leaves.specs.declared.norm.Ranges.{Ranges}
@@ -24,7 +26,7 @@ use Rattle.reduce.specs.inner.Bench.{grid, Benched, under_way, Reduces}
 use Rattle.reduce.specs.Reduced.{Reduced, reduced_as, flat, reduce_tests, reduce_call}
 use Rattle.reduce.proofs.Begins.{take-columns}
 use Rattle.reduce.proofs.Fitting.{Fits, reduction-fits}
-use Rattle.leaves.proofs.Insides.{Inside, inside}
+use Rattle.leaves.proofs.Insides.{Inside}
 
 -- ---- 2: sizes within their ranges
 -- ---- the tests: none is met exactly where sizes and lengths fit
@@ -38,9 +40,9 @@ pub record Lengths (m n jac res norms diag order bench : ℕ) : Type 0 where
   pub bench_long : bench ≡ m * n + m
 
 module _ (m n jac res norms diag order bench : ℕ) where
-  pub lengths : first_of (reduce_tests m n jac res norms diag order bench) ≡ 0 → Lengths m n jac res norms diag order bench
+  pub lengths : 0 ≡ first_of (reduce_tests m n jac res norms diag order bench) → Lengths m n jac res norms diag order bench
   lengths e =
-      let h = (passed_iff (reduce_tests m n jac res norms diag order bench) refl).0 e in
+      let h = (passed_iff (reduce_tests m n jac res norms diag order bench) refl).0 (sym e) in
       let a = eqb jac (m * n) in
       let b = eqb res m in
       let c = eqb norms n in
@@ -73,9 +75,6 @@ module _ (m n jac res norms diag order bench : ℕ) where
         eq-eqb _ _ l.order_long,
         eq-eqb _ _ l.bench_long,
       )
-
-pub passed : {m n jac res norms diag order bench c : ℕ} → c ≡ first_of (reduce_tests m n jac res norms diag order bench) → c ≡ 0 → Lengths m n jac res norms diag order bench
-passed e z = lengths _ _ _ _ _ _ _ _ (sym e ∙ z)
 
 pub benched : {m n : ℕ} (b : List Float) → Inside m n → length b ≡ m * n + m → Benched m n b
 benched {m = m} {n = n} b i h = record { rows = i.rows_few; across = i.cols_few; whole = h ∙ ap (λ (k : ℕ). k + m) (mul_comm m n) ∙ sym (suc-mul n m) }
@@ -132,40 +131,43 @@ module _ (m n : ℕ) (jac res v₀ d₀ : List Float) (o₀ : List ℕ) (b₀ : 
   abbrev worked : Reduced
   worked = let f = reduction_of m n (columns m n jac) res in reduced_as (answered (ranges_of (measured m n (columns m n jac) res))) (map norm (columns m n jac)) f.diag f.order (flat f.cols ++ f.rhs)
 
-  pub call_refuses : (c : ℕ) → c ≡ tests → (c ≡ 0 → ⊥) → reduced_as (refused c) v₀ d₀ o₀ b₀ ≡ reduce_call m n jac res v₀ d₀ o₀ b₀
+  pub call_refuses : (r : Refusal) → refusal_number r ≡ tests → reduced_as (refused (refusal_number r)) v₀ d₀ o₀ b₀ ≡ reduce_call m n jac res v₀ d₀ o₀ b₀
   unfolding reduce_call
-  call_refuses c e h = call-refused worked (λ (k : ℕ). reduced_as (refused k) v₀ d₀ o₀ b₀) _ c (sym e) (ne_eqb c 0 h)
+  call_refuses r e = call-refused worked (λ (k : ℕ). reduced_as (refused k) v₀ d₀ o₀ b₀) _ (refusal_number r) (sym e) (ne_eqb (refusal_number r) 0 (refusal_number-some r))
 
   call_works : tests ≡ 0 → worked ≡ reduce_call m n jac res v₀ d₀ o₀ b₀
   unfolding reduce_call
   call_works e = call-worked worked (λ (k : ℕ). reduced_as (refused k) v₀ d₀ o₀ b₀) _ e
 
-  -- what the working leaves: begun on the bench, and reduced column by column
-  pub call_works_out : (v d₁ w₁ x₁ b₁ d w b : List Float) (o₁ o : List ℕ) (seen all : Ranges) → tests ≡ 0 → v ≡ map norm (columns m n jac)
-      → under_way m n b₁ d₁ w₁ o₁ ≡ start (columns m n jac) (take m res) → x₁ ≡ w₁ → under_way m n b d w o ≡ upto (reduced_at n) (min m n) (under_way m n b₁ d₁ x₁ o₁)
-      → seen ≡ ranges_of (columns m n jac) → all ≡ either seen (ranges_of (along (measured_at n) (reduced_at n) (min m n) (under_way m n b₁ d₁ x₁ o₁))) → length b ≡ length b₀ → reduced_as (answered all) v d o b ≡ reduce_call m n jac res v₀ d₀ o₀ b₀
+  -- what the working leaves: begun as r, and reduced column by column
+  pub call_works_out : (v d w b : List Float) (o : List ℕ) (r : Reduction) (seen all : Ranges) → tests ≡ 0 → v ≡ map norm (columns m n jac) → r ≡ start (columns m n jac) (take m res)
+      → under_way m n b d w o ≡ upto (reduced_at n) (min m n) r → seen ≡ ranges_of (columns m n jac) → all ≡ either seen (ranges_of (along (measured_at n) (reduced_at n) (min m n) r))
+      → length b ≡ suc n * m → reduced_as (answered all) v d o b ≡ reduce_call m n jac res v₀ d₀ o₀ b₀
   unfolding reduction_of measured
-  call_works_out v d₁ w₁ x₁ b₁ d w b o₁ o seen all t hv h₁ ew h₂ hs ha lb =
-      let l = lengths m n (length jac) (length res) (length v₀) (length d₀) (length o₀) (length b₀) t in
+  call_works_out v d w b o r seen all t hv h₁ h₂ hs ha full =
+      let l = lengths m n (length jac) (length res) (length v₀) (length d₀) (length o₀) (length b₀) (sym t) in
       let f : Reduction = reduction_of m n (columns m n jac) res in
       let same : take m res ≡ res = take_all m res (le_of_eq l.res_long) in
-      let from : under_way m n b₁ d₁ x₁ o₁ ≡ start (columns m n jac) res = ap (λ (x : List Float). under_way m n b₁ d₁ x o₁) ew ∙ h₁ ∙ ap (start (columns m n jac)) same in
+      let from : r ≡ start (columns m n jac) res = h₁ ∙ ap (start (columns m n jac)) same in
       let e : under_way m n b d w o ≡ f = h₂ ∙ ap (upto (reduced_at n) (min m n)) from in
-      let full = (benched b (inside m n l.sizes) (lb ∙ l.bench_long)).whole in
       let hb : b ≡ flat f.cols ++ f.rhs = sym (bench_whole m n b full) ∙ ap (λ (x : Reduction). flat x.cols ++ x.rhs) e in
       let hd : d ≡ f.diag = ap (λ (x : Reduction). x.diag) e in
       let ho : o ≡ f.order = ap (λ (x : Reduction). x.order) e in
       let told : all ≡ ranges_of (measured m n (columns m n jac) res) =
-      ha ∙ ap (λ (x : Ranges). either x (ranges_of (along (measured_at n) (reduced_at n) (min m n) (under_way m n b₁ d₁ x₁ o₁)))) hs
+      ha ∙ ap (λ (x : Ranges). either x (ranges_of (along (measured_at n) (reduced_at n) (min m n) r))) hs
       ∙ ap (λ (x : Reduction). either (ranges_of (columns m n jac)) (ranges_of (along (measured_at n) (reduced_at n) (min m n) x))) from
       ∙ sym (ranges_of-append (columns m n jac) (along (measured_at n) (reduced_at n) (min m n) (start (columns m n jac) res))) in
       let whole : reduced_as (answered all) v d o b ≡ worked = rw (told, hv, hd, ho, hb) in
       whole ∙ call_works t
 
 -- at the start r_diag has the norms of the columns as they stand
-pub start-norms : (m n : ℕ) (b d w : List Float) (o : List ℕ) (cs : List (List Float)) (r : List Float) → under_way m n b d w o ≡ start cs r → d ≡ map norm (take n (grid m n b))
+pub start-norms : (r : Reduction) (cs : List (List Float)) (b : List Float) → r ≡ start cs b → r.diag ≡ map norm r.cols
 unfolding start
-start-norms m n b d w o cs r e = ap (λ (x : Reduction). x.diag) e ∙ sym (ap (λ (x : Reduction). map norm x.cols) e)
+start-norms r cs b e = ap (λ (x : Reduction). x.diag) e ∙ sym (ap (λ (x : Reduction). map norm x.cols) e)
+
+pub start-cols : (r : Reduction) (cs : List (List Float)) (b : List Float) → r ≡ start cs b → cs ≡ r.cols
+unfolding start
+start-cols r cs b e = sym (ap (λ (x : Reduction). x.cols) e)
 
 -- ---- for callers: what stands in the lent slices after a reduction whose sizes and lengths fit
 pub reduces : (m n : ℕ) (jac res v₀ v d₀ d : List Float) (o₀ o : List ℕ) (b₀ b : List Float) {r : Reply Ranges} → outside m n ≡ false → length jac ≡ m * n → length res ≡ m

@@ -4,4 +4,5 @@ pub mod Pivots
 pub mod Fitting
 pub mod Lent
 pub mod Filled
+pub mod Going
 pub mod Unique

@@ -14,13 +14,16 @@ use Rattle.leaves.specs.Number.{plus_zero}
 use Rattle.leaves.specs.Norm.{norm, either, ranges, ranges_of}
 use Rattle.leaves.specs.declared.norm.Ranges.{Ranges}
 use Rattle.leaves.proofs.Seen.{either_none, either-more, ranges_of_has}
-use Rattle.leaves.specs.Reply.{answered}
+use Rattle.std.specs.Prelude.{Result, Ok}
+use Rattle.leaves.specs.Reply.{answered, reply_of}
+use Rattle.leaves.specs.declared.reply.Refusal.{Refusal}
+use Rattle.leaves.proofs.Replies.{reply_of-ok}
 use Rattle.leaves.specs.Vector.{imax_from, imax_of, imax}
 use Rattle.leaves.specs.Triangle.{columns}
 use Rattle.leaves.proofs.Folds.{front, front_step, front_end}
 use Rattle.leaves.specs.Loop.{between, along_between}
 use Rattle.reduce.specs.Reduction.{Reduction, reduction, swap, pivoted, axis_by, reflect_from, later, signed, with_diag, with_rhs, reflected, reduced, measured_later, measured_reflected, measured_at}
-use Rattle.reduce.specs.inner.Bench.{swap_place, swept}
+use Rattle.reduce.specs.inner.Bench.{swept, moved}
 use Rattle.leaves.proofs.Loops.{between_keeps}
 use Rattle.leaves.proofs.Grids.{grid_read, grid_write}
 use Rattle.reduce.proofs.Begins.{norms_at}
@@ -44,7 +47,21 @@ unfolding imax
 imax_is [] h = absurd (not-suc-le-zero h)
 imax_is (x ∷ xs) h = refl
 
+-- so that it is not refused
+pub imax_fits : (v : List Float) (r : Result ℕ Refusal) → 0 < length v → reply_of r ≡ imax v → r ≡ Ok (imax_of v)
+imax_fits v r h e = reply_of-ok r (e ∙ imax_is v h)
+
+pub imax_told : (v : List Float) (r : Result ℕ Refusal) {k : ℕ} → 0 < length v → reply_of r ≡ imax v → r ≡ Ok k → (k ≡ imax_of v) × (k < length v)
+imax_told v r {k = k} h e w =
+    let f = imax_fits v r h e in
+    let s : k ≡ imax_of v = cc in
+    (s, rw s (imax_place v h))
+
 -- ---- two columns exchanged, place by place
+-- place i of columns j and k exchanged
+unfoldable pub swap_place : ℕ → ℕ → ℕ → List (List Float) → List (List Float)
+swap_place j k i g = set (set g j (set (get_or g j []) i (get_or (get_or g k []) i nan))) k (set (get_or g k []) i (get_or (get_or g j []) i nan))
+
 pub swap_place_lem : (m n : ℕ) (s : List Float) (j k i p q : ℕ) → p ≡ j * m + i → q ≡ k * m + i → j < k → k < n → i < m
     → columns m n (set (set s p (get_or s q nan)) q (get_or s p nan)) ≡ swap_place j k i (columns m n s)
 unfolding swap_place
@@ -115,13 +132,12 @@ module _ (n j k : ℕ) (g : List (List Float)) (hj : j < k) (hk : k < n) where
   swap-past =
       get_or-set_other (set g j (get_or g k [])) k n (get_or g j []) [] (λ (z : n ≡ k). omega arith) ∙ get_or-set_other g j n (get_or g k []) [] (λ (z : n ≡ j). omega arith)
 
-  pub pivot_moves : (g' : List (List Float)) (d w d' w' : List Float) (o o' : List ℕ) → k ≡ j + imax_of (drop j d) → g' ≡ swap [] j k g
-      → d' ≡ set d k (get_or d j nan) → w' ≡ set w k (get_or w j nan) → o' ≡ swap 0 j k o
-      → reduction (take n g') d' w' o' (get_or g' n []) ≡ pivoted j (reduction (take n g) d w o (get_or g n []))
-  unfolding pivoted
-  pivot_moves g' d w d' w' o o' ek eg ed ew eo =
+  pub pivot_moves : (g' : List (List Float)) (d w : List Float) (o : List ℕ) → k ≡ j + imax_of (drop j d) → g' ≡ swap [] j k g
+      → moved j k (reduction (take n g') d w o (get_or g' n [])) ≡ pivoted j (reduction (take n g) d w o (get_or g n []))
+  unfolding pivoted moved
+  pivot_moves g' d w o ek eg =
       let ne : eqb (j + imax_of (drop j d)) j ≡ false = ne_eqb _ _ (λ (z : j + imax_of (drop j d) ≡ j). omega arith) in
-      rw (eg, ed, ew, eo, swap-take, swap-past, ek, ne)
+      rw (eg, swap-take, swap-past, ek, ne)
 
 pub pivot-stays : (j : ℕ) (r : Reduction) → imax_of (drop j r.diag) ≡ 0 → r ≡ pivoted j r
 unfolding pivoted

@@ -1,57 +1,40 @@
 // Document 01, module 2: what factoring starts from.
-ghost use Rattle.std.specs.Prelude.{◌≡◌, [], map, ◌<◌, length, get_or, take};
+ghost use Rattle.std.specs.Prelude.{◌≡◌, map, length};
 ghost use Rattle.leaves.specs.Norm.{norm, ranges_of};
 ghost use Rattle.reduce.specs.Reduction.{start};
-ghost use Rattle.reduce.specs.inner.Bench.{grid, Benched, under_way};
+ghost use Rattle.reduce.specs.inner.Going.{going, Same};
 
-use crate::reduce::norm_from;
-use crate::wrap::copy_of;
+use crate::pivoted::PivotedQR;
 use leaves::norm::{Ranges, either, neither};
 use leaves::vector::count;
 
-// The norms of the columns, and the ranges that took part in them.
-fn norms_in(m: usize, n: usize, bench: &[f64], norms: &mut [f64]) -> Ranges
-    requires benched { Benched m n bench.now }
-    requires m_nonzero { 0 < m }
-    requires norms_len { length norms.old ≡ n }
-    ensures norms_after { norms.new ≡ map norm (take n (grid m n bench.now)) }
-    ensures value { result ≡ ranges_of (take n (grid m n bench.now)) }
-{
-    let mut seen = neither();
-    let mut k = 0;
-    while k < n {
-        let s = norm_from(m, n, k, 0, bench);
-        norms[k] = s.norm;
-        let more = s.seen;
-        seen = either(seen, more);
-        k += 1;
+impl PivotedQR<'_> {
+    // The norms of the columns, and the ranges that took part in them.
+    fn norms_in(&self, norms: &mut [f64]) -> Ranges
+        requires { length norms.old ≡ self.now.n }
+        ensures norms_after { norms.new ≡ map norm (going self.now).cols }
+        ensures value { result ≡ ranges_of (going self.now).cols }
+    {
+        let mut seen = neither();
+        for (k, norm) in norms.iter_mut().enumerate() {
+            let s = self.norm_from(k, 0);
+            *norm = s.value;
+            seen = either(seen, s.seen);
+        }
+        seen
     }
-    seen
-}
 
-// Of the columns and the residuals that stand in the bench.
-pub(crate) fn begin_filled(
-    m: usize,
-    n: usize,
-    bench: &[f64],
-    norms: &mut [f64],
-    diag: &mut [f64],
-    work: &mut [f64],
-    order: &mut [usize],
-) -> Ranges
-    requires benched { Benched m n bench.now }
-    requires m_nonzero { 0 < m }
-    requires norms_len { length norms.old ≡ n }
-    requires diag_len { length diag.old ≡ n }
-    requires work_len { length work.old ≡ n }
-    requires order_len { length order.old ≡ n }
-    ensures norms_after { norms.new ≡ map norm (take n (grid m n bench.now)) }
-    ensures order_after { under_way m n bench.now diag.new work.new order.new ≡ start (take n (grid m n bench.now)) (get_or (grid m n bench.now) n []) }
-    ensures value { result ≡ ranges_of (take n (grid m n bench.now)) }
-{
-    let seen = norms_in(m, n, bench, norms);
-    copy_of(norms, diag);
-    copy_of(norms, work);
-    count(order);
-    seen
+    // Of the columns and the residuals that stand in the bench.
+    pub(crate) fn begin(&mut self, norms: &mut [f64])
+        requires { length norms.old ≡ self.old.n }
+        ensures norms_after { norms.new ≡ map norm (going self.old).cols }
+        ensures same { Same self.old self.new }
+        ensures after { going self.new ≡ start (going self.old).cols (going self.old).rhs }
+        ensures seen { self.new.seen ≡ ranges_of (going self.old).cols }
+    {
+        self.seen = self.norms_in(norms);
+        self.diag.copy_from_slice(norms);
+        self.work.copy_from_slice(norms);
+        count(self.order);
+    }
 }

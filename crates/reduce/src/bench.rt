@@ -1,38 +1,56 @@
 // Document 01, modules 2 and 3: the reduction on lent slices.
 ghost use Rattle.std.specs.Prelude.{◌≡◌, false, ◌+◌, ◌*◌, length};
-ghost use Rattle.leaves.specs.Reply.{ranged_of, answered};
+ghost use Rattle.leaves.specs.Reply.{answered, reply_of, failed_by};
 ghost use Rattle.leaves.specs.Tests.{first_of, outside};
 ghost use Rattle.reduce.specs.Reduced.{reduced_as, reduce_tests, filled_call};
+ghost use Rattle.reduce.specs.inner.Going.{Same};
 
-use crate::beginning::begin_filled;
-use crate::reduce::reduce;
-use leaves::norm::Ranges;
-use leaves::reply::Ranged;
-use leaves::sizes::{outside, room16};
+use crate::pivoted::PivotedQR;
+use leaves::norm::{Ranges, neither};
+use leaves::reply::Refusal;
+use leaves::sizes::{filled, outside};
 
-fn room128() -> [f64; 128]
-    ensures { length result ≡ 128 }
-{
-    [0.0; 128]
+impl PivotedQR<'_> {
+    // Of what stands in the bench.
+    fn factor(&mut self, norms: &mut [f64], axis: &mut [f64; 128])
+        requires sizes { outside self.old.m self.old.n ≡ false }
+        requires norms_len { length norms.old ≡ self.old.n }
+        ensures same { Same self.old self.new }
+        ensures whole { reduced_as (answered self.new.seen) norms.new self.new.diag.now self.new.order.now self.new.bench.now ≡ filled_call self.old.m self.old.n norms.old self.old.diag.now self.old.order.now self.old.bench.now }
+    {
+        self.begin(norms);
+        self.reduce(axis);
+    }
 }
 
 // The columns and the residuals stand in the bench: its length tells theirs.
-fn check(m: usize, n: usize, norms: usize, diag: usize, order: usize, bench: usize) -> u8
-    ensures { result ≡ first_of (reduce_tests m n (m * n) m norms diag order bench) }
+fn check(
+    m: usize,
+    n: usize,
+    norms: usize,
+    diag: usize,
+    order: usize,
+    bench: usize,
+) -> Result<(), Refusal>
+    ensures { failed_by result ≡ first_of (reduce_tests m n (m * n) m norms diag order bench) }
 {
     if outside(m, n) {
-        return 2;
+        return Err(Refusal::Sizes);
     }
     if norms != n {
-        return 3;
+        return Err(Refusal::Length);
     }
     if diag != n {
-        return 3;
+        return Err(Refusal::Length);
     }
     if order != n {
-        return 3;
+        return Err(Refusal::Length);
     }
-    if bench != m * n + m { 3 } else { 0 }
+    if bench != m * n + m {
+        Err(Refusal::Length)
+    } else {
+        Ok(())
+    }
 }
 
 // All tests passed: what stands in the bench, reduced.
@@ -51,19 +69,19 @@ fn reduce_whole(
     requires bench_len { length bench.old ≡ m * n + m }
     ensures { reduced_as (answered result) norms.new diag.new order.new bench.new ≡ filled_call m n norms.old diag.old order.old bench.old }
 {
-    let mut work = room16();
-    let mut axis = room128();
-    let seen = begin_filled(m, n, bench, norms, diag, &mut work[..n], order);
-    reduce(
+    let mut work: [f64; 16] = filled(0.0);
+    let mut axis: [f64; 128] = filled(0.0);
+    let mut qr = PivotedQR {
         m,
         n,
         bench,
         diag,
-        &mut work[..n],
+        work: &mut work[..n],
         order,
-        &mut axis[..],
-        seen,
-    )
+        seen: neither(),
+    };
+    qr.factor(norms, &mut axis);
+    qr.seen
 }
 
 // Reduces a Jacobian to R by reflections with column pivoting, and its residuals with it. Both stand in the bench: with frozen columns it is
@@ -81,12 +99,9 @@ pub fn reduce_filled(
     diag: &mut [f64],
     order: &mut [usize],
     bench: &mut [f64],
-) -> Ranged
-    ensures { reduced_as (ranged_of result) norms.new diag.new order.new bench.new ≡ filled_call m n norms.old diag.old order.old bench.old }
+) -> Result<Ranges, Refusal>
+    ensures { reduced_as (reply_of result) norms.new diag.new order.new bench.new ≡ filled_call m n norms.old diag.old order.old bench.old }
 {
-    let c = check(m, n, norms.len(), diag.len(), order.len(), bench.len());
-    if c != 0 {
-        return Ranged::Refused(c);
-    }
-    Ranged::Seen(reduce_whole(m, n, norms, diag, order, bench))
+    check(m, n, norms.len(), diag.len(), order.len(), bench.len())?;
+    Ok(reduce_whole(m, n, norms, diag, order, bench))
 }

@@ -3,6 +3,6 @@
 
 mod beginning;
 pub mod bench;
+mod pivoted;
 mod reduce;
 mod reflect;
-mod wrap;

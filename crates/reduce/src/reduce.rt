@@ -1,263 +1,178 @@
 // Document 01, module 2: factoring with column pivoting. The residuals are the bench's last column, and take each
 // reflection as it arises (docs/DECISIONS.md, D45).
-ghost use Rattle.std.specs.Prelude.{◌≡◌, ◌+◌, ◌-◌, ◌<◌, min, length, get_or, set, take, drop, [], map};
-ghost use Rattle.std.specs.Float.{nan};
-ghost use Rattle.leaves.specs.Norm.{norm, either as either_of, ranges, ranges_of};
+ghost use Rattle.std.specs.Prelude.{◌≡◌, ◌+◌, ◌-◌, ◌<◌, ◌≤◌, min, length, get_or, drop, []};
+ghost use Rattle.leaves.specs.Norm.{norm, ranges, either as either_of};
 ghost use Rattle.leaves.specs.Loop.{upto, along};
+ghost use Rattle.leaves.specs.Vector.{imax_of};
 ghost use Rattle.reduce.specs.Reduction.{swap, pivoted, axis_by, signed as signed_of, reflected, reduced, measured_reflected, measured_at};
-ghost use Rattle.reduce.specs.inner.Bench.{grid, Benched, under_way, Steps, Sees, swap_place};
+ghost use Rattle.reduce.specs.inner.Bench.{moved};
+ghost use Rattle.reduce.specs.inner.Going.{grid_of, Beside, going, Same, Begun, Sees};
 
-use crate::reflect::{later_columns, make_axis, reflect_column, row_at, signed};
-use crate::wrap::{NormSeen, imax_of, norm_of};
-use leaves::norm::{Ranges, either};
+use crate::pivoted::PivotedQR;
+use crate::reflect::{make_axis, signed};
+use leaves::norm::{Normed, either, enorm};
 use leaves::sizes::least;
+use leaves::vector::imax;
 
-fn swap_places(m: usize, n: usize, j: usize, k: usize, i: usize, bench: &mut [f64])
-    requires benched { Benched m n bench.old }
-    requires j_lt_k { j < k }
-    requires k_lt_n { k < n }
-    requires i_lt_m { i < m }
-    ensures { grid m n bench.new ≡ swap_place j k i (grid m n bench.old) }
-{
-    let p = row_at(m, n, j, i);
-    let q = row_at(m, n, k, i);
-    let t = bench[p];
-    bench[p] = bench[q];
-    bench[q] = t;
-}
-
-fn swap_columns(m: usize, n: usize, j: usize, k: usize, bench: &mut [f64])
-    requires benched { Benched m n bench.old }
-    requires j_lt_k { j < k }
-    requires k_lt_n { k < n }
-    ensures { grid m n bench.new ≡ swap [] j k (grid m n bench.old) }
-{
-    let mut i = 0;
-    while i < m {
-        swap_places(m, n, j, k, i, bench);
-        i += 1;
+impl PivotedQR<'_> {
+    // Row by row, from where the columns begin. By hand: with the slice's own `swap`, which tests which place is first, a factoring is up to
+    // 2.6% dearer.
+    fn swap_columns(&mut self, j: usize, k: usize)
+        requires j_lt_k { j < k }
+        requires k_lt_n { k < self.old.n }
+        ensures beside { Beside self.old self.new }
+        ensures after { grid_of self.new ≡ swap [] j k (grid_of self.old) }
+    {
+        let m = self.m;
+        let a = self.row_at(j, 0);
+        let b = self.row_at(k, 0);
+        let bench = &mut *self.bench;
+        for i in 0..m {
+            let t = bench[a + i];
+            bench[a + i] = bench[b + i];
+            bench[b + i] = t;
+        }
     }
-}
 
-// Place k of r_diag and work gets what place j had.
-fn swap_entries(j: usize, k: usize, diag: &mut [f64], work: &mut [f64], order: &mut [usize])
-    requires j_lt_k { j < k }
-    requires k_in_bounds { k < length diag.old }
-    requires k_in_bounds_2 { k < length work.old }
-    requires k_in_bounds_3 { k < length order.old }
-    ensures diag_after { diag.new ≡ set diag.old k (get_or diag.old j nan) }
-    ensures work_after { work.new ≡ set work.old k (get_or work.old j nan) }
-    ensures order_after { order.new ≡ swap 0 j k order.old }
-{
-    diag[k] = diag[j];
-    work[k] = work[j];
-    let o = order[j];
-    order[j] = order[k];
-    order[k] = o;
-}
-
-fn pivot(
-    m: usize,
-    n: usize,
-    j: usize,
-    bench: &mut [f64],
-    diag: &mut [f64],
-    work: &mut [f64],
-    order: &mut [usize],
-)
-    requires benched { Benched m n bench.old }
-    requires j_lt_n { j < n }
-    requires diag_len { length diag.old ≡ n }
-    requires work_len { length work.old ≡ n }
-    requires order_len { length order.old ≡ n }
-    ensures { under_way m n bench.new diag.new work.new order.new ≡ pivoted j (under_way m n bench.old diag.old work.old order.old) }
-{
-    let d = imax_of(&diag[j..n]);
-    if d == 0 {
-        return;
+    // The axis of column j goes straight into the scratch, never back to the bench. The answer is the column's signed norm.
+    fn axis_of(&self, j: usize, s: f64, axis: &mut [f64]) -> f64
+        requires j_lt_n { j < self.now.n }
+        requires j_lt_m { j < self.now.m }
+        requires axis_len { length axis.old ≡ self.now.m - j }
+        ensures value { result ≡ signed_of s (drop j (get_or (grid_of self.now) j [])) }
+        ensures axis_after { axis.new ≡ axis_by result (drop j (get_or (grid_of self.now) j [])) }
+    {
+        let a = self.row_at(j, j);
+        let e = a + (self.m - j);
+        let t = signed(s, &self.bench[a..e]);
+        make_axis(&self.bench[a..e], t, axis);
+        t
     }
-    let k = j + d;
-    swap_columns(m, n, j, k, bench);
-    swap_entries(j, k, diag, work, order);
-}
 
-// The axis of column j goes straight into the scratch, never back to the bench. The answer is the column's signed norm.
-fn axis_of(m: usize, n: usize, j: usize, s: f64, bench: &[f64], axis: &mut [f64]) -> f64
-    requires benched { Benched m n bench.now }
-    requires j_lt_n { j < n }
-    requires j_lt_m { j < m }
-    requires axis_len { length axis.old ≡ m - j }
-    ensures value { result ≡ signed_of s (drop j (get_or (grid m n bench.now) j [])) }
-    ensures axis_after { axis.new ≡ axis_by result (drop j (get_or (grid m n bench.now) j [])) }
-{
-    let a = row_at(m, n, j, j);
-    let e = a + (m - j);
-    let t = signed(s, &bench[a..e]);
-    make_axis(&bench[a..e], t, axis);
-    t
-}
-
-fn reflect_from(
-    m: usize,
-    n: usize,
-    j: usize,
-    s: f64,
-    bench: &mut [f64],
-    diag: &mut [f64],
-    work: &mut [f64],
-    axis: &mut [f64],
-    seen: Ranges,
-) -> Ranges
-    requires benched { Benched m n bench.old }
-    requires j_lt_n { j < n }
-    requires j_lt_m { j < m }
-    requires diag_len { length diag.old ≡ n }
-    requires work_len { length work.old ≡ n }
-    requires axis_len { length axis.old ≡ m - j }
-    ensures steps { Steps m n (reflected n j s) bench.old diag.old work.old bench.new diag.new work.new }
-    ensures sees { Sees m n (measured_reflected n j s) bench.old diag.old work.old seen result }
-{
-    let t = axis_of(m, n, j, s, bench, axis);
-    diag[j] = -t;
-    let all = later_columns(m, n, j, axis, bench, diag, work, seen);
-    reflect_column(m, n, j, n, axis, bench);
-    all
-}
-
-pub(crate) fn norm_from(m: usize, n: usize, k: usize, j: usize, bench: &[f64]) -> NormSeen
-    requires benched { Benched m n bench.now }
-    requires k_lt_n { k < n }
-    requires j_lt_m { j < m }
-    ensures norm_value { result.norm ≡ norm (drop j (get_or (grid m n bench.now) k [])) }
-    ensures seen_value { result.seen ≡ ranges (drop j (get_or (grid m n bench.now) k [])) }
-{
-    let a = row_at(m, n, k, j);
-    let e = a + (m - j);
-    norm_of(&bench[a..e])
-}
-
-// At j = 0 r_diag has the norm of the pivot column already: its largest.
-fn first_pivot(
-    m: usize,
-    n: usize,
-    bench: &mut [f64],
-    diag: &mut [f64],
-    work: &mut [f64],
-    order: &mut [usize],
-) -> f64
-    requires benched { Benched m n bench.old }
-    requires n_nonzero { 0 < n }
-    requires diag_len { length diag.old ≡ n }
-    requires work_len { length work.old ≡ n }
-    requires order_len { length order.old ≡ n }
-    requires diag_value { diag.old ≡ map norm (take n (grid m n bench.old)) }
-    ensures value { result ≡ norm (get_or (take n (grid m n bench.new)) 0 []) }
-    ensures order_after { under_way m n bench.new diag.new work.new order.new ≡ pivoted 0 (under_way m n bench.old diag.old work.old order.old) }
-{
-    let k = imax_of(diag);
-    let s = diag[k];
-    pivot(m, n, 0, bench, diag, work, order);
-    s
-}
-
-// The norm of the pivot column from row j on, once it stands at place j, and all that is seen with it.
-fn pivot_norm(
-    m: usize,
-    n: usize,
-    j: usize,
-    bench: &mut [f64],
-    diag: &mut [f64],
-    work: &mut [f64],
-    order: &mut [usize],
-    seen: Ranges,
-) -> NormSeen
-    requires benched { Benched m n bench.old }
-    requires j_lt_n { j < n }
-    requires j_lt_m { j < m }
-    requires diag_len { length diag.old ≡ n }
-    requires work_len { length work.old ≡ n }
-    requires order_len { length order.old ≡ n }
-    requires diag_value { j ≡ 0 → diag.old ≡ map norm (take n (grid m n bench.old)) }
-    requires seen_value { j ≡ 0 → seen ≡ ranges_of (take n (grid m n bench.old)) }
-    ensures norm_value { result.norm ≡ norm (drop j (get_or (take n (grid m n bench.new)) j [])) }
-    ensures seen_value_2 { result.seen ≡ either_of seen (ranges (drop j (get_or (take n (grid m n bench.new)) j []))) }
-    ensures order_after { under_way m n bench.new diag.new work.new order.new ≡ pivoted j (under_way m n bench.old diag.old work.old order.old) }
-{
-    if j == 0 {
-        return NormSeen {
-            norm: first_pivot(m, n, bench, diag, work, order),
-            seen: seen,
-        };
+    pub(crate) fn norm_from(&self, k: usize, j: usize) -> Normed
+        requires k_lt_n { k < self.now.n }
+        requires j_le_m { j ≤ self.now.m }
+        ensures value_value { result.value ≡ norm (drop j (get_or (grid_of self.now) k [])) }
+        ensures seen_value { result.seen ≡ ranges (drop j (get_or (grid_of self.now) k [])) }
+    {
+        let a = self.row_at(k, j);
+        let e = a + (self.m - j);
+        enorm(&self.bench[a..e]).unwrap()
     }
-    pivot(m, n, j, bench, diag, work, order);
-    let s = norm_from(m, n, j, j, bench);
-    let more = s.seen;
-    NormSeen {
-        norm: s.norm,
-        seen: either(seen, more),
-    }
-}
 
-// A zero reduced norm sets r_diag 0 and skips the reflection.
-fn reduce_column(
-    m: usize,
-    n: usize,
-    j: usize,
-    bench: &mut [f64],
-    diag: &mut [f64],
-    work: &mut [f64],
-    order: &mut [usize],
-    axis: &mut [f64],
-    seen: Ranges,
-) -> Ranges
-    requires benched { Benched m n bench.old }
-    requires j_lt_n { j < n }
-    requires j_lt_m { j < m }
-    requires diag_len { length diag.old ≡ n }
-    requires work_len { length work.old ≡ n }
-    requires order_len { length order.old ≡ n }
-    requires axis_len { length axis.old ≡ 128 }
-    requires diag_value { j ≡ 0 → diag.old ≡ map norm (take n (grid m n bench.old)) }
-    requires seen_value { j ≡ 0 → seen ≡ ranges_of (take n (grid m n bench.old)) }
-    ensures order_after { under_way m n bench.new diag.new work.new order.new ≡ reduced n j (under_way m n bench.old diag.old work.old order.old) }
-    ensures value { result ≡ either_of seen (ranges_of (measured_at n j (under_way m n bench.old diag.old work.old order.old))) }
-{
-    let s = pivot_norm(m, n, j, bench, diag, work, order, seen);
-    let all = s.seen;
-    if s.norm == 0.0 {
-        diag[j] = 0.0;
-        return all;
+    // Place k of r_diag and work gets what place j had.
+    fn swap_entries(&mut self, j: usize, k: usize)
+        requires j_lt_k { j < k }
+        requires k_lt_n { k < self.old.n }
+        ensures same { Same self.old self.new }
+        ensures after { going self.new ≡ moved j k (going self.old) }
+        ensures seen { self.new.seen ≡ self.old.seen }
+    {
+        self.diag[k] = self.diag[j];
+        self.work[k] = self.work[j];
+        self.order.swap(j, k);
     }
-    let len = m - j;
-    reflect_from(m, n, j, s.norm, bench, diag, work, &mut axis[..len], all)
-}
 
-pub(crate) fn reduce(
-    m: usize,
-    n: usize,
-    bench: &mut [f64],
-    diag: &mut [f64],
-    work: &mut [f64],
-    order: &mut [usize],
-    axis: &mut [f64],
-    seen: Ranges,
-) -> Ranges
-    requires benched { Benched m n bench.old }
-    requires diag_len { length diag.old ≡ n }
-    requires work_len { length work.old ≡ n }
-    requires order_len { length order.old ≡ n }
-    requires axis_len { length axis.old ≡ 128 }
-    requires diag_value { diag.old ≡ map norm (take n (grid m n bench.old)) }
-    requires seen_value { seen ≡ ranges_of (take n (grid m n bench.old)) }
-    ensures order_after { under_way m n bench.new diag.new work.new order.new ≡ upto (reduced n) (min m n) (under_way m n bench.old diag.old work.old order.old) }
-    ensures value { result ≡ either_of seen (ranges_of (along (measured_at n) (reduced n) (min m n) (under_way m n bench.old diag.old work.old order.old))) }
-{
-    let top = least(m, n);
-    let mut all = seen;
-    let mut j = 0;
-    while j < top {
-        all = reduce_column(m, n, j, bench, diag, work, order, axis, all);
-        j += 1;
+    // How far from place j the largest of r_diag stands, of places j on.
+    fn largest(&self, j: usize) -> usize
+        requires { j < self.now.n }
+        ensures value { result ≡ imax_of (drop j self.now.diag.now) }
+        ensures below { j + result < self.now.n }
+    {
+        let n = self.n;
+        imax(&self.diag[j..n]).unwrap()
     }
-    all
+
+    fn pivot(&mut self, j: usize)
+        requires { j < self.old.n }
+        ensures same { Same self.old self.new }
+        ensures after { going self.new ≡ pivoted j (going self.old) }
+        ensures seen { self.new.seen ≡ self.old.seen }
+    {
+        let d = self.largest(j);
+        if d == 0 {
+            return;
+        }
+        let k = j + d;
+        self.swap_columns(j, k);
+        self.swap_entries(j, k);
+    }
+
+    fn reflect_from(&mut self, j: usize, s: f64, axis: &mut [f64])
+        requires j_lt_n { j < self.old.n }
+        requires j_lt_m { j < self.old.m }
+        requires axis_len { length axis.old ≡ self.old.m - j }
+        ensures same { Same self.old self.new }
+        ensures after { going self.new ≡ reflected self.old.n j s (going self.old) }
+        ensures sees { Sees (measured_reflected self.old.n j s) self.old self.new }
+    {
+        let t = self.axis_of(j, s, axis);
+        self.diag[j] = -t;
+        self.later_columns(j, axis);
+        let n = self.n;
+        self.reflect_column(j, n, axis);
+    }
+
+    // At j = 0 r_diag has the norm of the pivot column already: its largest.
+    fn first_pivot(&mut self) -> f64
+        requires n_nonzero { 0 < self.old.n }
+        requires begun { Begun self.old }
+        ensures value { result ≡ norm (get_or (going self.new).cols 0 []) }
+        ensures same { Same self.old self.new }
+        ensures after { going self.new ≡ pivoted 0 (going self.old) }
+        ensures seen { self.new.seen ≡ self.old.seen }
+    {
+        let k = self.largest(0);
+        let s = self.diag[k];
+        self.pivot(0);
+        s
+    }
+
+    // The norm of the pivot column from row j on, once it stands at place j, and all that is seen with it.
+    fn pivot_norm(&mut self, j: usize) -> f64
+        requires j_lt_n { j < self.old.n }
+        requires j_lt_m { j < self.old.m }
+        requires begun { j ≡ 0 → Begun self.old }
+        ensures value { result ≡ norm (drop j (get_or (going self.new).cols j [])) }
+        ensures same { Same self.old self.new }
+        ensures after { going self.new ≡ pivoted j (going self.old) }
+        ensures seen { self.new.seen ≡ either_of self.old.seen (ranges (drop j (get_or (going self.new).cols j []))) }
+    {
+        if j == 0 {
+            return self.first_pivot();
+        }
+        self.pivot(j);
+        let s = self.norm_from(j, j);
+        self.seen = either(self.seen, s.seen);
+        s.value
+    }
+
+    // A zero reduced norm sets r_diag 0 and skips the reflection.
+    fn reduce_column(&mut self, j: usize, axis: &mut [f64; 128])
+        requires j_lt_n { j < self.old.n }
+        requires j_lt_m { j < self.old.m }
+        requires begun { j ≡ 0 → Begun self.old }
+        ensures same { Same self.old self.new }
+        ensures after { going self.new ≡ reduced self.old.n j (going self.old) }
+        ensures sees { Sees (measured_at self.old.n j) self.old self.new }
+    {
+        let s = self.pivot_norm(j);
+        if s == 0.0 {
+            self.diag[j] = 0.0;
+            return;
+        }
+        let len = self.m - j;
+        self.reflect_from(j, s, &mut axis[..len]);
+    }
+
+    pub(crate) fn reduce(&mut self, axis: &mut [f64; 128])
+        requires { Begun self.old }
+        ensures same { Same self.old self.new }
+        ensures after { going self.new ≡ upto (reduced self.old.n) (min self.old.m self.old.n) (going self.old) }
+        ensures sees { Sees (along (measured_at self.old.n) (reduced self.old.n) (min self.old.m self.old.n)) self.old self.new }
+    {
+        for j in 0..least(self.m, self.n) {
+            self.reduce_column(j, axis);
+        }
+    }
 }

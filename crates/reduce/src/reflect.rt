@@ -1,14 +1,15 @@
 // Document 01, module 2: one reflection of the factoring, on the lower end of columns from row j on.
 ghost use Rattle.std.specs.Prelude.{◌≡◌, [], suc, ◌+◌, ◌-◌, ◌*◌, ◌<◌, ◌≤◌, length, get_or, set};
 ghost use Rattle.leaves.specs.Loop.{between, along_between};
-ghost use Rattle.leaves.specs.Norm.{either as either_of, ranges_of};
 ghost use Rattle.reduce.specs.Reduction.{axis_by, reflect as reflect_of, reflect_from, later, signed as signed_of, shrunk as shrunk_of, measured_later};
-ghost use Rattle.reduce.specs.inner.Bench.{grid, Benched, Steps, Sees, divided, renewed_at, remeasured_at, stale as stale_of};
+ghost use Rattle.reduce.specs.inner.Bench.{divided, renewing, measured_renewing, stale as stale_of};
+ghost use Rattle.reduce.specs.inner.Going.{grid_of, Beside, going, Same, Sees};
 
-use crate::wrap::{axpy_of, dot_of, norm_of};
-use leaves::norm::{Ranges, either};
+use crate::pivoted::PivotedQR;
+use leaves::norm::either;
 use leaves::number::{epsmch, is_negative, max};
 use leaves::root::sqrt;
+use leaves::vector::{axpy, dot};
 
 // The norm of a column with the sign of its first place.
 pub(crate) fn signed(s: f64, col: &[f64]) -> f64
@@ -22,10 +23,8 @@ fn divide(col: &[f64], t: f64, axis: &mut [f64])
     requires { length axis.old ≡ length col.now }
     ensures { axis.new ≡ divided t col.now }
 {
-    let mut i = 0;
-    while i < col.len() {
-        axis[i] = col[i] / t;
-        i += 1;
+    for (i, x) in col.iter().enumerate() {
+        axis[i] = *x / t;
     }
 }
 
@@ -44,40 +43,8 @@ fn reflect(axis: &[f64], col: &mut [f64])
     requires axis_nonzero { 0 < length axis.now }
     ensures { col.new ≡ reflect_of axis.now col.old }
 {
-    let s = dot_of(&col[..], axis);
-    axpy_of(-(s / axis[0]), axis, col);
-}
-
-// The residuals are column n.
-pub(crate) fn reflect_column(
-    m: usize,
-    n: usize,
-    j: usize,
-    k: usize,
-    axis: &[f64],
-    bench: &mut [f64],
-)
-    requires benched { Benched m n bench.old }
-    requires k_le_n { k ≤ n }
-    requires j_lt_m { j < m }
-    requires axis_len { length axis.now ≡ m - j }
-    ensures { grid m n bench.new ≡ set (grid m n bench.old) k (reflect_from j axis.now (get_or (grid m n bench.old) k [])) }
-{
-    let a = row_at(m, n, k, j);
-    let e = a + (m - j);
-    reflect(axis, &mut bench[a..e]);
-}
-
-// Where row i of column k stands.
-pub(crate) fn row_at(m: usize, n: usize, k: usize, i: usize) -> usize
-    requires m_bound { m ≤ 128 }
-    requires n_bound { n ≤ 16 }
-    requires k_le_n { k ≤ n }
-    requires i_le_m { i ≤ m }
-    ensures value { result ≡ k * m + i }
-    ensures i_bound { result + (m - i) ≤ suc n * m }
-{
-    k * m + i
+    let s = dot(&col[..], axis).unwrap();
+    axpy(-(s / axis[0]), axis, col).unwrap();
 }
 
 fn shrunk(d: f64, x: f64) -> f64
@@ -94,93 +61,76 @@ fn stale(s: f64, w: f64) -> bool
     0.05 * (t * t) <= epsmch()
 }
 
-// A norm of zero stays. Another loses the row that has gone to R, or is worked out anew from the rows below.
-fn renew(
-    m: usize,
-    n: usize,
-    j: usize,
-    k: usize,
-    bench: &[f64],
-    diag: &mut [f64],
-    work: &mut [f64],
-    seen: Ranges,
-) -> Ranges
-    requires benched { Benched m n bench.now }
-    requires k_lt_n { k < n }
-    requires j_lt_m { j < m }
-    requires diag_len { length diag.old ≡ n }
-    requires work_len { length work.old ≡ n }
-    ensures work_after { (diag.new, work.new) ≡ renewed_at j k (get_or (grid m n bench.now) k []) diag.old work.old }
-    ensures value { result ≡ either_of seen (ranges_of (remeasured_at j k (get_or (grid m n bench.now) k []) diag.old work.old)) }
-{
-    let d = diag[k];
-    if d == 0.0 {
-        return seen;
+impl PivotedQR<'_> {
+    // Where row i of column k stands.
+    pub(crate) fn row_at(&self, k: usize, i: usize) -> usize
+        requires k_le_n { k ≤ self.now.n }
+        requires i_le_m { i ≤ self.now.m }
+        ensures value { result ≡ k * self.now.m + i }
+        ensures i_bound { result + (self.now.m - i) ≤ suc self.now.n * self.now.m }
+    {
+        k * self.m + i
     }
-    let a = row_at(m, n, k, j);
-    let s = shrunk(d, bench[a]);
-    if stale(s, work[k]) {
-        let from = a + 1;
-        let e = a + (m - j);
-        let z = norm_of(&bench[from..e]);
-        diag[k] = z.norm;
-        work[k] = z.norm;
-        let more = z.seen;
-        either(seen, more)
-    } else {
-        diag[k] = s;
-        seen
-    }
-}
 
-fn later_column(
-    m: usize,
-    n: usize,
-    j: usize,
-    k: usize,
-    axis: &[f64],
-    bench: &mut [f64],
-    diag: &mut [f64],
-    work: &mut [f64],
-    seen: Ranges,
-) -> Ranges
-    requires benched { Benched m n bench.old }
-    requires k_lt_n { k < n }
-    requires j_lt_m { j < m }
-    requires axis_len { length axis.now ≡ m - j }
-    requires diag_len { length diag.old ≡ n }
-    requires work_len { length work.old ≡ n }
-    ensures steps { Steps m n (later j axis.now k) bench.old diag.old work.old bench.new diag.new work.new }
-    ensures sees { Sees m n (measured_later j axis.now k) bench.old diag.old work.old seen result }
-{
-    reflect_column(m, n, j, k, axis, bench);
-    renew(m, n, j, k, bench, diag, work, seen)
-}
-
-pub(crate) fn later_columns(
-    m: usize,
-    n: usize,
-    j: usize,
-    axis: &[f64],
-    bench: &mut [f64],
-    diag: &mut [f64],
-    work: &mut [f64],
-    seen: Ranges,
-) -> Ranges
-    requires benched { Benched m n bench.old }
-    requires j_lt_n { j < n }
-    requires j_lt_m { j < m }
-    requires axis_len { length axis.now ≡ m - j }
-    requires diag_len { length diag.old ≡ n }
-    requires work_len { length work.old ≡ n }
-    ensures steps { Steps m n (between (later j axis.now) (suc j) n) bench.old diag.old work.old bench.new diag.new work.new }
-    ensures sees { Sees m n (along_between (measured_later j axis.now) (later j axis.now) (suc j) n) bench.old diag.old work.old seen result }
-{
-    let mut all = seen;
-    let mut k = j + 1;
-    while k < n {
-        all = later_column(m, n, j, k, axis, bench, diag, work, all);
-        k += 1;
+    // The residuals are column n.
+    pub(crate) fn reflect_column(&mut self, j: usize, k: usize, axis: &[f64])
+        requires k_le_n { k ≤ self.old.n }
+        requires j_lt_m { j < self.old.m }
+        requires axis_len { length axis.now ≡ self.old.m - j }
+        ensures beside { Beside self.old self.new }
+        ensures after { grid_of self.new ≡ set (grid_of self.old) k (reflect_from j axis.now (get_or (grid_of self.old) k [])) }
+    {
+        let a = self.row_at(k, j);
+        let e = a + (self.m - j);
+        reflect(axis, &mut self.bench[a..e]);
     }
-    all
+
+    // A norm of zero stays. Another loses the row that has gone to R, or is worked out anew from the rows below.
+    fn renew(&mut self, j: usize, k: usize)
+        requires k_lt_n { k < self.old.n }
+        requires j_lt_m { j < self.old.m }
+        ensures same { Same self.old self.new }
+        ensures after { going self.new ≡ renewing j k (going self.old) }
+        ensures sees { Sees (measured_renewing j k) self.old self.new }
+    {
+        let d = self.diag[k];
+        if d == 0.0 {
+            return;
+        }
+        let a = self.row_at(k, j);
+        let s = shrunk(d, self.bench[a]);
+        if stale(s, self.work[k]) {
+            let z = self.norm_from(k, j + 1);
+            self.diag[k] = z.value;
+            self.work[k] = z.value;
+            self.seen = either(self.seen, z.seen);
+        } else {
+            self.diag[k] = s;
+        }
+    }
+
+    fn later_column(&mut self, j: usize, k: usize, axis: &[f64])
+        requires k_lt_n { k < self.old.n }
+        requires j_lt_m { j < self.old.m }
+        requires axis_len { length axis.now ≡ self.old.m - j }
+        ensures same { Same self.old self.new }
+        ensures after { going self.new ≡ later j axis.now k (going self.old) }
+        ensures sees { Sees (measured_later j axis.now k) self.old self.new }
+    {
+        self.reflect_column(j, k, axis);
+        self.renew(j, k);
+    }
+
+    pub(crate) fn later_columns(&mut self, j: usize, axis: &[f64])
+        requires j_lt_n { j < self.old.n }
+        requires j_lt_m { j < self.old.m }
+        requires axis_len { length axis.now ≡ self.old.m - j }
+        ensures same { Same self.old self.new }
+        ensures after { going self.new ≡ between (later j axis.now) (suc j) self.old.n (going self.old) }
+        ensures sees { Sees (along_between (measured_later j axis.now) (later j axis.now) (suc j) self.old.n) self.old self.new }
+    {
+        for k in j + 1..self.n {
+            self.later_column(j, k, axis);
+        }
+    }
 }

@@ -3,9 +3,9 @@
 ghost use Rattle.text.specs.inner.Part.{Part};
 
 use crate::reply::{After, held};
-use crate::room;
-use calls::state::{State, Told};
-use leaves::reply::Done;
+use calls::state::State;
+use leaves::reply::{Refusal, Told};
+use leaves::sizes::filled;
 use text::double::bits_of;
 
 // How many were copied: all, or none where the room is too short, which then shows as a difference.
@@ -15,11 +15,7 @@ fn copied(v: &[f64], room: &mut [f64]) -> usize
     if room.len() < v.len() {
         return 0;
     }
-    let mut i: usize = 0;
-    while i < v.len() {
-        room[i] = v[i];
-        i += 1;
-    }
+    room[..v.len()].copy_from_slice(v);
     v.len()
 }
 
@@ -28,45 +24,27 @@ fn begins(a: &[f64], b: &[f64]) -> bool {
     if b.len() < a.len() {
         return false;
     }
-    let mut i: usize = 0;
-    while i < a.len() {
-        if bits_of(a[i]) != bits_of(b[i]) {
-            return false;
-        }
-        i += 1;
-    }
-    true
-}
-
-// The number of a refusal, 0 for none.
-fn refusal(a: Done) -> u8 {
-    match a {
-        Done::Written => 0,
-        Done::Refused(k) => k,
-    }
+    a.iter().zip(b).all(|(x, y)| bits_of(*x) == bits_of(*y))
 }
 
 // What the reader answered, and the copy of the output after it. It only reads the store.
 #[derive(Clone, Copy)]
 struct Beside {
-    answer: Done,
+    answer: Result<(), Refusal>,
     out: [f64; 32],
 }
 
 // Whether the reader left the same answer and output.
-fn same(r: Beside, t: Told, out: &[f64]) -> bool {
-    let answer = t.answer;
-    let other = r.answer;
-    let out_copy = r.out;
-    begins(out, &out_copy) & (refusal(answer) == refusal(other))
+fn same(r: Beside, t: Told<(), State>, out: &[f64]) -> bool {
+    begins(out, &r.out) & (t.answer == r.answer)
 }
 
 fn solve_beside(st: State, store: &[f64], order: &[usize], rhs: &[f64], out: &[f64]) -> Beside {
-    let mut out_copy = room::out();
+    let mut out_copy: [f64; 32] = filled(0.0);
     let u = copied(out, &mut out_copy);
     let answer = reader::reader::solve_plain(store, st, order, rhs, &mut out_copy[..u]);
     Beside {
-        answer: answer,
+        answer,
         out: out_copy,
     }
 }
@@ -84,11 +62,11 @@ pub(crate) fn solve(
 }
 
 fn mul_beside(st: State, store: &[f64], out: &[f64]) -> Beside {
-    let mut out_copy = room::out();
+    let mut out_copy: [f64; 32] = filled(0.0);
     let u = copied(out, &mut out_copy);
     let answer = reader::reader::mul_plain(store, st, &mut out_copy[..u]);
     Beside {
-        answer: answer,
+        answer,
         out: out_copy,
     }
 }

@@ -9,28 +9,18 @@ fn next(counter: u64) -> u64 {
 
 pub(crate) fn doubles(room: &mut [f64], len: usize, counter: u64) -> u64 {
     let mut c = counter;
-    let mut i: usize = 0;
-    while i < len {
-        if room.len() <= i {
-            return c;
-        }
+    for x in room.iter_mut().take(len) {
         c = next(c);
-        room[i] = of_bits(c);
-        i += 1;
+        *x = of_bits(c);
     }
     c
 }
 
 pub(crate) fn places(room: &mut [usize], len: usize, counter: u64) -> u64 {
     let mut c = counter;
-    let mut i: usize = 0;
-    while i < len {
-        if room.len() <= i {
-            return c;
-        }
+    for k in room.iter_mut().take(len) {
         c = next(c);
-        room[i] = (c % 32) as usize;
-        i += 1;
+        *k = (c % 32) as usize;
     }
     c
 }

@@ -21,8 +21,12 @@ mod rescale;
 mod room;
 mod stage;
 
+use leaves::sizes::filled;
+
 fn main(rt: HostRuntime) {
-    let mut line = room::line();
-    let mut text = room::text();
+    // A factoring's line has 17 bytes for each of 2,176 numbers.
+    let mut line: [u8; 65536] = filled(0);
+    // More than twice what one call prints, so that one more always fits below the mark where the text is written out.
+    let mut text: [u8; 262144] = filled(0);
     feed::all(rt.stdin(), rt.stdout(), &mut line, &mut text);
 }

@@ -1,52 +1,53 @@
 // Document 02, #107: packed rooms.
-use crate::away::{exchange, kept, of_other, packed_of, unplayed, with};
-use crate::reply::{After, told};
-use crate::room::{Aside, Packed, Scene, moved, places_within};
-use crate::{junk, print, room};
-use lines::part::doubles_within;
-use lines::scan::word;
+use crate::away::{exchange, kept, packed_of};
+use crate::item::word;
+use crate::room::{Packed, Scene};
+use crate::{junk, print};
+use leaves::reply::Refusal;
+use leaves::sizes::filled;
+use lines::part::within;
+use lines::scan::{Number, Unread};
 use text::double::of_bits;
+use text::put::Page;
+
+// Which of the three packed rooms an item names.
+fn which(s: &[u8]) -> Result<Number, Unread> {
+    let k = word(s, 2)?;
+    if 2 < k.value {
+        return Err(Unread::Bad);
+    }
+    Ok(k)
+}
 
 // Junk in the oracle's order: the doubles, the places.
 fn soiled(len: usize, count: usize, seed: u64) -> Packed {
-    let mut room = room::packed_room();
-    let mut places = room::places();
+    let mut room: [f64; 192] = filled(0.0);
+    let mut places: [usize; 32] = filled(0);
     let one = junk::doubles(&mut room, len, seed);
     junk::places(&mut places, count, one);
     Packed {
-        room: room,
-        places: places,
-        len: len,
-        count: count,
+        room,
+        places,
+        len,
+        count,
     }
 }
 
-fn lend(s: &[u8], p: Scene, text: &mut [u8]) -> Scene {
-    let k = word(s, 2);
-    let a = word(s, k.next);
-    let b = word(s, a.next);
-    let seed = word(s, b.next);
-    let good = seed.good & (k.value <= 2);
-    if !good {
-        return unplayed(false, p, text);
+fn lend(s: &[u8], p: Scene) -> Result<Scene, Unread> {
+    let k = which(s)?;
+    let a = word(s, k.next)?;
+    let b = word(s, a.next)?;
+    let seed = word(s, b.next)?;
+    if (192 < a.value) | (32 < b.value) {
+        return Err(Unread::Large);
     }
-    let fits = (a.value <= 192) & (b.value <= 32);
-    if !fits {
-        return unplayed(true, p, text);
-    }
-    let b = soiled(a.value as usize, b.value as usize, seed.value);
-    kept(p, k.value, b)
+    let lent = soiled(a.value as usize, b.value as usize, seed.value);
+    Ok(kept(p, k.value, lent))
 }
 
-fn put_double(room: &mut [f64], i: usize, x: f64) {
-    if i < room.len() {
-        room[i] = x;
-    }
-}
-
-fn put_place(places: &mut [usize], i: usize, v: usize) {
-    if i < places.len() {
-        places[i] = v;
+fn put<T: Copy>(v: &mut [T], i: usize, x: T) {
+    if i < v.len() {
+        v[i] = x;
     }
 }
 
@@ -55,34 +56,24 @@ fn spoilt(b: Packed, op: u8, i: usize, x: u64) -> Packed {
     let mut room = b.room;
     let mut places = b.places;
     if op == b'V' {
-        put_double(&mut room, i, of_bits(x));
+        put(&mut room, i, of_bits(x));
     } else {
-        put_place(&mut places, i, x as usize);
+        put(&mut places, i, x as usize);
     }
-    Packed {
-        room: room,
-        places: places,
-        len: b.len,
-        count: b.count,
-    }
+    Packed { room, places, ..b }
 }
 
-fn spoil(s: &[u8], op: u8, p: Scene, text: &mut [u8]) -> Scene {
-    let k = word(s, 2);
-    let i = word(s, k.next);
-    let x = word(s, i.next);
-    let good = x.good & (k.value <= 2);
-    if !good {
-        return unplayed(false, p, text);
-    }
-    let away = p.away;
-    let b = packed_of(away, k.value);
+fn spoil(s: &[u8], op: u8, p: Scene) -> Result<Scene, Unread> {
+    let k = which(s)?;
+    let i = word(s, k.next)?;
+    let x = word(s, i.next)?;
+    let b = packed_of(p.away, k.value);
     let len = if op == b'V' { b.len } else { b.count };
     let at = i.value as usize;
     if len <= at {
-        return unplayed(true, p, text);
+        return Err(Unread::Large);
     }
-    kept(p, k.value, spoilt(b, op, at, x.value))
+    Ok(kept(p, k.value, spoilt(b, op, at, x.value)))
 }
 
 // What a packing or an unpacking left, and what it answered.
@@ -90,114 +81,77 @@ fn spoil(s: &[u8], op: u8, p: Scene, text: &mut [u8]) -> Scene {
 struct Left {
     scene: Scene,
     packed: Packed,
-    after: After,
+    answer: Result<(), Refusal>,
 }
 
 fn pack(p: Scene, b: Packed) -> Left {
-    let lent = p.lent;
-    let st = p.state;
-    let away = p.away;
-    let store = p.store;
-    let order = p.order;
     let mut room = b.room;
     let mut places = b.places;
-    let k = doubles_within(&store, lent.store);
-    let o = places_within(&order, lent.order);
-    let r = doubles_within(&room, b.len);
-    let q = places_within(&places, b.count);
+    let k = within(&p.store, p.lent.store);
+    let o = within(&p.order, p.lent.order);
+    let r = within(&room, b.len);
+    let q = within(&places, b.count);
     let t = packing::pack::pack(
-        st,
-        &store[..k],
-        &order[..o],
+        p.state,
+        &p.store[..k],
+        &p.order[..o],
         &mut room[..r],
         &mut places[..q],
     );
-    let a = told(t);
-    let state = a.state;
-    let scene = with(p, state, away);
-    let left = Packed {
-        room: room,
-        places: places,
-        len: b.len,
-        count: b.count,
-    };
     Left {
-        scene: scene,
-        packed: left,
-        after: a,
+        scene: Scene {
+            state: t.state,
+            ..p
+        },
+        packed: Packed { room, places, ..b },
+        answer: t.answer,
     }
 }
 
 fn unpack(p: Scene, b: Packed) -> Left {
-    let lent = p.lent;
-    let st = p.state;
-    let away = p.away;
     let mut store = p.store;
     let mut order = p.order;
-    let room = b.room;
-    let places = b.places;
-    let k = doubles_within(&store, lent.store);
-    let o = places_within(&order, lent.order);
-    let r = doubles_within(&room, b.len);
-    let q = places_within(&places, b.count);
+    let k = within(&store, p.lent.store);
+    let o = within(&order, p.lent.order);
+    let r = within(&b.room, b.len);
+    let q = within(&b.places, b.count);
     let t = packing::unpack::unpack(
-        st,
-        &room[..r],
-        &places[..q],
+        p.state,
+        &b.room[..r],
+        &b.places[..q],
         &mut store[..k],
         &mut order[..o],
     );
-    let a = told(t);
-    let state = a.state;
-    let own = Aside {
-        store: store,
-        order: order,
-        len: lent.store,
-        count: lent.order,
-        state: state,
-    };
-    let scene = of_other(p, own, away);
     Left {
-        scene: scene,
+        scene: Scene {
+            store,
+            order,
+            state: t.state,
+            ..p
+        },
         packed: b,
-        after: a,
+        answer: t.answer,
     }
 }
 
-fn done(q: Left, k: u64, text: &mut [u8]) -> Scene {
-    let b = q.packed;
-    let left = q.scene;
-    let a = q.after;
-    let scene = kept(left, k, b);
-    moved(scene, print::packing(a, b, scene, text))
+fn call(s: &[u8], op: u8, p: Scene, page: &mut Page<'_>) -> Result<Scene, Unread> {
+    let k = which(s)?.value;
+    let b = packed_of(p.away, k);
+    let left = if op == b'B' { pack(p, b) } else { unpack(p, b) };
+    let scene = kept(left.scene, k, left.packed);
+    print::packing(left.answer, left.packed, scene, page);
+    Ok(scene)
 }
 
-fn call(s: &[u8], op: u8, p: Scene, text: &mut [u8]) -> Scene {
-    let k = word(s, 2);
-    let good = k.good & (k.value <= 2);
-    if !good {
-        return unplayed(false, p, text);
-    }
-    let away = p.away;
-    let b = packed_of(away, k.value);
-    if op == b'B' {
-        return done(pack(p, b), k.value, text);
-    }
-    done(unpack(p, b), k.value, text)
-}
-
-pub(crate) fn line(s: &[u8], op: u8, p: Scene, text: &mut [u8]) -> Scene {
+pub(crate) fn line(s: &[u8], op: u8, p: Scene, page: &mut Page<'_>) -> Result<Scene, Unread> {
     match op {
-        b'X' => exchange(s, p, text),
-        b'J' => lend(s, p, text),
-        b'V' | b'Y' => spoil(s, op, p, text),
-        _ => call(s, op, p, text),
+        b'X' => exchange(s, p),
+        b'J' => lend(s, p),
+        b'V' | b'Y' => spoil(s, op, p),
+        _ => call(s, op, p, page),
     }
 }
 
 pub(crate) fn is_of(op: u8) -> bool {
-    match op {
-        b'X' | b'J' | b'V' | b'Y' | b'B' | b'E' => true,
-        _ => false,
-    }
+    matches!(op, b'X' | b'J' | b'V' | b'Y' | b'B' | b'E')
 }

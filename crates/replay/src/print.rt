@@ -1,75 +1,68 @@
-// Answers and rooms as text, from a place on. Each function answers the place after what it wrote.
+// Answers and rooms as text.
 use crate::reply::{After, Extra, Reply};
-use crate::room::{Packed, Scene, places_within};
+use crate::room::{Packed, Scene};
 use calls::state::State;
 use factor::state::Held;
 use leaves::norm::Ranges;
-use lines::part::doubles_within;
-use lines::put::{double, number};
-use text::put;
+use leaves::reply::Refusal;
+use lines::part::within;
+use lines::put::{double, number, refused, row};
+use lines::scan::Unread;
+use search::LMParameter;
+use text::put::Page;
 
 // Small seen, large seen.
-fn flags(f: Ranges, text: &mut [u8], at: usize) -> usize {
-    let a = number(f.small as usize, text, at);
-    number(f.large as usize, text, a)
+fn flags(f: Ranges, page: &mut Page<'_>) {
+    number(f.small as usize, page);
+    number(f.large as usize, page);
 }
 
-fn sought(lambda: f64, norm: f64, trials: usize, text: &mut [u8], at: usize) -> usize {
-    let a = double(lambda, text, at);
-    let b = double(norm, text, a);
-    number(trials, text, b)
+fn sought(p: LMParameter, page: &mut Page<'_>) {
+    double(p.lambda, page);
+    double(p.dp_norm, page);
+    number(p.trials, page);
 }
 
-fn values(r: Reply, text: &mut [u8], at: usize) -> usize {
+fn values(r: Reply, page: &mut Page<'_>) {
     match r {
-        Reply::Number(x) => double(x, text, at),
-        Reply::Seen(f) => flags(f, text, at),
-        Reply::Measured(x, f) => {
-            let a = double(x, text, at);
-            flags(f, text, a)
+        Reply::Number(x) => double(x, page),
+        Reply::Seen(f) => flags(f, page),
+        Reply::Measured(t) => {
+            double(t.value, page);
+            flags(t.seen, page);
         }
-        Reply::Numbers(x, y, f) => {
-            let a = double(x, text, at);
-            let b = double(y, text, a);
-            flags(f, text, b)
+        Reply::Begun(t, f) => {
+            double(t.xnorm, page);
+            double(t.radius, page);
+            flags(f, page);
         }
-        Reply::Place(k) => number(k, text, at),
-        Reply::Sought(lambda, norm, trials, f) => {
-            let a = sought(lambda, norm, trials, text, at);
-            flags(f, text, a)
+        Reply::Place(k) => number(k, page),
+        Reply::Sought(p, f) => {
+            sought(p, page);
+            flags(f, page);
         }
-        Reply::Plain => at,
-        Reply::Refused(_) => at,
-        Reply::Quiet => at,
-        Reply::Large => at,
-        Reply::Unread => at,
+        Reply::Plain => {}
     }
 }
 
-fn answer(r: Reply, text: &mut [u8], at: usize) -> usize {
-    if let Reply::Refused(k) = r {
-        return lines::put::refused(k, text, at);
+// With the end of its line.
+fn answer(r: Result<Reply, Refusal>, page: &mut Page<'_>) {
+    match r {
+        Ok(x) => {
+            page.bytes(b"ok");
+            values(x, page);
+        }
+        Err(no) => refused(u8::from(no), page),
     }
-    let a = put::bytes(b"ok", text, at);
-    values(r, text, a)
+    page.bytes(b"\n");
 }
 
 // For an item that is not played. No call answers so, and it shows as a difference.
-pub(crate) fn unplayed(large: bool, text: &mut [u8], at: usize) -> usize {
-    if large {
-        return put::bytes(b"too large\n", text, at);
+pub(crate) fn unplayed(why: Unread, page: &mut Page<'_>) {
+    match why {
+        Unread::Large => page.bytes(b"too large\n"),
+        Unread::Bad => page.bytes(b"does not parse\n"),
     }
-    put::bytes(b"does not parse\n", text, at)
-}
-
-fn aside(r: Reply, text: &mut [u8], at: usize) -> usize {
-    if let Reply::Quiet = r {
-        return at;
-    }
-    if let Reply::Large = r {
-        return unplayed(true, text, at);
-    }
-    unplayed(false, text, at)
 }
 
 pub(crate) fn held_number(held: Held) -> usize {
@@ -81,100 +74,80 @@ pub(crate) fn held_number(held: Held) -> usize {
     }
 }
 
-fn row_of_doubles(title: &[u8], v: &[f64], text: &mut [u8], at: usize) -> usize {
-    let a = put::bytes(title, text, at);
-    let b = lines::put::row(v, text, a);
-    put::bytes(b"\n", text, b)
+fn row_of_doubles(title: &[u8], v: &[f64], page: &mut Page<'_>) {
+    page.bytes(title);
+    row(v, page);
+    page.bytes(b"\n");
 }
 
-fn numbers(v: &[usize], text: &mut [u8], at: usize) -> usize {
-    let mut k = at;
-    let mut i: usize = 0;
-    while i < v.len() {
-        k = number(v[i], text, k);
-        i += 1;
+fn numbers(v: &[usize], page: &mut Page<'_>) {
+    for x in v {
+        number(*x, page);
     }
-    k
 }
 
-fn row_of_numbers(title: &[u8], v: &[usize], text: &mut [u8], at: usize) -> usize {
-    let a = put::bytes(title, text, at);
-    let b = numbers(v, text, a);
-    put::bytes(b"\n", text, b)
+fn row_of_numbers(title: &[u8], v: &[usize], page: &mut Page<'_>) {
+    page.bytes(title);
+    numbers(v, page);
+    page.bytes(b"\n");
 }
 
 // Nothing where there are none.
-fn marks(k: u16, text: &mut [u8], at: usize) -> usize {
-    if k == 0 {
-        return at;
+fn marks(k: u16, page: &mut Page<'_>) {
+    if k > 0 {
+        number(k as usize, page);
     }
-    number(k as usize, text, at)
 }
 
-fn state(st: State, text: &mut [u8], at: usize) -> usize {
-    let held = st.held;
-    let row = [st.m, st.n, held_number(held)];
-    let a = put::bytes(b"state", text, at);
-    let b = numbers(&row, text, a);
-    let c = marks(st.marks, text, b);
-    put::bytes(b"\n", text, c)
+fn state(st: State, page: &mut Page<'_>) {
+    let row = [st.m, st.n, held_number(st.held)];
+    page.bytes(b"state");
+    numbers(&row, page);
+    marks(st.marks, page);
+    page.bytes(b"\n");
 }
 
 // The lent rooms, which are exactly as long as they were lent.
-fn rooms(p: Scene, text: &mut [u8], at: usize) -> usize {
-    let lent = p.lent;
-    let store = p.store;
-    let order = p.order;
-    let bench = p.bench;
-    let out = p.out;
-    let k = doubles_within(&store, lent.store);
-    let o = places_within(&order, lent.order);
-    let b = doubles_within(&bench, lent.bench);
-    let u = doubles_within(&out, lent.out);
-    let st = p.state;
-    let a = state(st, text, at);
-    let c = row_of_doubles(b"store", &store[..k], text, a);
-    let d = row_of_numbers(b"order", &order[..o], text, c);
-    let e = row_of_doubles(b"bench", &bench[..b], text, d);
-    row_of_doubles(b"out", &out[..u], text, e)
+fn rooms(p: Scene, page: &mut Page<'_>) {
+    let k = within(&p.store, p.lent.store);
+    let o = within(&p.order, p.lent.order);
+    let b = within(&p.bench, p.lent.bench);
+    let u = within(&p.out, p.lent.out);
+    state(p.state, page);
+    row_of_doubles(b"store", &p.store[..k], page);
+    row_of_numbers(b"order", &p.order[..o], page);
+    row_of_doubles(b"bench", &p.bench[..b], page);
+    row_of_doubles(b"out", &p.out[..u], page);
 }
 
 // A line that no oracle prints, or the lent scaling.
-fn extra(x: Extra, scaling: [f64; 64], len: usize, text: &mut [u8], at: usize) -> usize {
+fn extra(x: Extra, page: &mut Page<'_>) {
     match x {
-        Extra::Nothing => at,
-        Extra::Differs => put::bytes(b"reader differs\n", text, at),
-        Extra::Scaling => {
-            let n = doubles_within(&scaling, len);
-            row_of_doubles(b"scaling", &scaling[..n], text, at)
+        Extra::Nothing => {}
+        Extra::Differs => page.bytes(b"reader differs\n"),
+        Extra::Scaling(scaling, len) => {
+            let n = within(&scaling, len);
+            row_of_doubles(b"scaling", &scaling[..n], page);
         }
     }
 }
 
 // What an item answered, and after a call the rooms.
-pub(crate) fn item(a: After, p: Scene, text: &mut [u8]) -> usize {
-    let reply = a.reply;
-    if !a.called {
-        return aside(reply, text, p.at);
-    }
-    let n = answer(reply, text, p.at);
-    let m = put::bytes(b"\n", text, n);
-    let more = a.extra;
-    let scaling = a.scaling;
-    let k = extra(more, scaling, a.len, text, m);
-    rooms(p, text, k)
+pub(crate) fn item(a: After, p: Scene, page: &mut Page<'_>) {
+    let Some(reply) = a.reply else {
+        return;
+    };
+    answer(reply, page);
+    extra(a.extra, page);
+    rooms(p, page);
 }
 
 // What a packing or an unpacking answered, the packed room, and the rooms.
-pub(crate) fn packing(a: After, b: Packed, p: Scene, text: &mut [u8]) -> usize {
-    let reply = a.reply;
-    let room = b.room;
-    let places = b.places;
-    let r = doubles_within(&room, b.len);
-    let q = places_within(&places, b.count);
-    let n = answer(reply, text, p.at);
-    let m = put::bytes(b"\n", text, n);
-    let c = row_of_doubles(b"room", &room[..r], text, m);
-    let d = row_of_numbers(b"places", &places[..q], text, c);
-    rooms(p, text, d)
+pub(crate) fn packing(a: Result<(), Refusal>, b: Packed, p: Scene, page: &mut Page<'_>) {
+    let r = within(&b.room, b.len);
+    let q = within(&b.places, b.count);
+    answer(a.map(Reply::from), page);
+    row_of_doubles(b"room", &b.room[..r], page);
+    row_of_numbers(b"places", &b.places[..q], page);
+    rooms(p, page);
 }

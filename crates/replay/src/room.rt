@@ -1,8 +1,7 @@
-// The program's rooms. They hold the rules' largest problem, 128 residuals and 16 parameters, with a surplus.
-ghost use Rattle.text.specs.inner.Part.{Part};
-
+// The program's rooms: there is no heap, so each is as long as the longest, and a number beside it says how much is lent. They hold the rules' largest problem, 128 residuals and 16 parameters, with a surplus.
 use calls::state::State;
 use factor::state::Held;
+use leaves::sizes::filled;
 
 // How long each lent room is.
 #[derive(Clone, Copy)]
@@ -23,7 +22,7 @@ pub(crate) struct Aside {
     pub(crate) state: State,
 }
 
-// A packed room, of which the first len and the first count are lent.
+// A packed room, of which the first len and the first count are lent. 168 doubles are packed of 16 columns.
 #[derive(Clone, Copy)]
 pub(crate) struct Packed {
     pub(crate) room: [f64; 192],
@@ -41,8 +40,8 @@ pub(crate) struct Away {
     pub(crate) third: Packed,
 }
 
-// The rooms, whose first parts are lent; the state; and the place after the text that is not written out yet. It goes from function to
-// function by value: a call that is lent many slices at once takes the proof check long.
+// The rooms, whose first parts are lent, and the state. It goes from function to function by value: a call that is lent many slices at once
+// takes the proof check long.
 #[derive(Clone, Copy)]
 pub(crate) struct Scene {
     pub(crate) store: [f64; 384],
@@ -52,69 +51,10 @@ pub(crate) struct Scene {
     pub(crate) lent: Lent,
     pub(crate) state: State,
     pub(crate) away: Away,
-    pub(crate) at: usize,
 }
 
 pub(crate) fn fits(lent: Lent) -> bool {
     (lent.store <= 384) & (lent.order <= 32) & (lent.bench <= 2304) & (lent.out <= 32)
-}
-
-// A factoring's line has 17 bytes for each of 2,176 numbers.
-pub(crate) fn line() -> [u8; 65536] {
-    [0; 65536]
-}
-
-pub(crate) fn store() -> [f64; 384] {
-    [0.0; 384]
-}
-
-// 168 doubles are packed of 16 columns.
-pub(crate) fn packed_room() -> [f64; 192] {
-    [0.0; 192]
-}
-
-pub(crate) fn places() -> [usize; 32] {
-    [0; 32]
-}
-
-fn bench() -> [f64; 2304] {
-    [0.0; 2304]
-}
-
-pub(crate) fn out() -> [f64; 32] {
-    [0.0; 32]
-}
-
-pub(crate) fn jacobian() -> [f64; 2304] {
-    [0.0; 2304]
-}
-
-pub(crate) fn residuals() -> [f64; 256] {
-    [0.0; 256]
-}
-
-// A vector with a number for each parameter.
-pub(crate) fn vector() -> [f64; 64] {
-    [0.0; 64]
-}
-
-// More than twice what one call prints, so that one more always fits below the mark where the text is written out.
-pub(crate) fn text() -> [u8; 262144] {
-    [0; 262144]
-}
-
-pub(crate) fn places_within(v: &[usize], n: usize) -> usize
-    ensures { Part result v.now }
-{
-    if n < v.len() { n } else { v.len() }
-}
-
-// Marks as a script has them; whoever calls has tested that they are sixteen bits.
-pub(crate) fn marks_of(k: u64) -> u16 {
-    if 65535 < k {
-        return 0;
-    }
-    k as u16
 }
 
 pub(crate) fn empty() -> State {
@@ -127,24 +67,19 @@ pub(crate) fn empty() -> State {
 }
 
 fn no_problem() -> Aside {
-    let store = store();
-    let order = places();
-    let state = empty();
     Aside {
-        store: store,
-        order: order,
+        store: filled(0.0),
+        order: filled(0),
         len: 0,
         count: 0,
-        state: state,
+        state: empty(),
     }
 }
 
 fn no_packed() -> Packed {
-    let room = packed_room();
-    let places = places();
     Packed {
-        room: room,
-        places: places,
+        room: filled(0.0),
+        places: filled(0),
         len: 0,
         count: 0,
     }
@@ -162,39 +97,25 @@ fn none_away() -> Away {
     }
 }
 
-// The same rooms and state, with the text at another place.
-pub(crate) fn moved(p: Scene, at: usize) -> Scene {
-    let mut q = p;
-    q.at = at;
-    q
-}
-
 // Nothing is lent, put aside or packed.
-pub(crate) fn nothing(at: usize) -> Scene {
-    bare(none_away(), at)
+pub(crate) fn nothing() -> Scene {
+    bare(none_away())
 }
 
 // Nothing is lent.
-pub(crate) fn bare(away: Away, at: usize) -> Scene {
-    let store = store();
-    let order = places();
-    let bench = bench();
-    let out = out();
-    let none = Lent {
-        store: 0,
-        order: 0,
-        bench: 0,
-        out: 0,
-    };
-    let state = empty();
+pub(crate) fn bare(away: Away) -> Scene {
     Scene {
-        store: store,
-        order: order,
-        bench: bench,
-        out: out,
-        lent: none,
-        state: state,
-        away: away,
-        at: at,
+        store: filled(0.0),
+        order: filled(0),
+        bench: filled(0.0),
+        out: filled(0.0),
+        lent: Lent {
+            store: 0,
+            order: 0,
+            bench: 0,
+            out: 0,
+        },
+        state: empty(),
+        away,
     }
 }

@@ -1,10 +1,11 @@
 // One line of a script: rooms are lent, a case ends, or an item is played on the parts of the program's rooms that are lent.
+use crate::item::word;
 use crate::reply::After;
-use crate::room::{Lent, Scene, bare, empty, fits, moved, places_within};
+use crate::room::{Lent, Scene, bare, empty, fits};
 use crate::{item, junk, pack, print};
-use lines::part::doubles_within;
-use lines::scan::{byte, word};
-use text::put;
+use lines::part::within;
+use lines::scan::{Unread, byte};
+use text::put::Page;
 
 // The rooms with other lengths lent, full of junk in the oracle's order: the store, the bench, the output, the order list.
 fn soiled(p: Scene, lent: Lent, seed: u64) -> Scene {
@@ -12,35 +13,27 @@ fn soiled(p: Scene, lent: Lent, seed: u64) -> Scene {
     let mut order = p.order;
     let mut bench = p.bench;
     let mut out = p.out;
-    let away = p.away;
     let one = junk::doubles(&mut store, lent.store, seed);
     let two = junk::doubles(&mut bench, lent.bench, one);
     let three = junk::doubles(&mut out, lent.out, two);
     junk::places(&mut order, lent.order, three);
-    let state = empty();
     Scene {
-        store: store,
-        order: order,
-        bench: bench,
-        out: out,
-        lent: lent,
-        state: state,
-        away: away,
-        at: p.at,
+        store,
+        order,
+        bench,
+        out,
+        lent,
+        state: empty(),
+        ..p
     }
 }
 
-// Where a length does not fit its room nothing is lent.
-fn lend(s: &[u8], p: Scene, text: &mut [u8]) -> Scene {
-    let a = word(s, 2);
-    let b = word(s, a.next);
-    let c = word(s, b.next);
-    let d = word(s, c.next);
-    let seed = word(s, d.next);
-    let away = p.away;
-    if !seed.good {
-        return bare(away, print::unplayed(false, text, p.at));
-    }
+fn lent(s: &[u8], p: Scene) -> Result<Scene, Unread> {
+    let a = word(s, 2)?;
+    let b = word(s, a.next)?;
+    let c = word(s, b.next)?;
+    let d = word(s, c.next)?;
+    let seed = word(s, d.next)?;
     let lent = Lent {
         store: a.value as usize,
         order: b.value as usize,
@@ -48,9 +41,20 @@ fn lend(s: &[u8], p: Scene, text: &mut [u8]) -> Scene {
         out: d.value as usize,
     };
     if fits(lent) {
-        return soiled(p, lent, seed.value);
+        return Ok(soiled(p, lent, seed.value));
     }
-    bare(away, print::unplayed(true, text, p.at))
+    Err(Unread::Large)
+}
+
+// Where a length does not fit its room nothing is lent.
+fn lend(s: &[u8], p: Scene, page: &mut Page<'_>) -> Scene {
+    match lent(s, p) {
+        Ok(q) => q,
+        Err(why) => {
+            print::unplayed(why, page);
+            bare(p.away)
+        }
+    }
 }
 
 // What an item left in the rooms, and what it answered.
@@ -60,56 +64,59 @@ struct Left {
     after: After,
 }
 
-fn played(s: &[u8], p: Scene) -> Left {
-    let lent = p.lent;
-    let st = p.state;
+fn played(s: &[u8], p: Scene) -> Result<Left, Unread> {
     let mut store = p.store;
     let mut order = p.order;
     let mut bench = p.bench;
     let mut out = p.out;
-    let away = p.away;
-    let k = doubles_within(&store, lent.store);
-    let o = places_within(&order, lent.order);
-    let b = doubles_within(&bench, lent.bench);
-    let u = doubles_within(&out, lent.out);
-    let a = item::play(
+    let k = within(&store, p.lent.store);
+    let o = within(&order, p.lent.order);
+    let b = within(&bench, p.lent.bench);
+    let u = within(&out, p.lent.out);
+    let after = item::play(
         s,
-        st,
+        p.state,
         &mut store[..k],
         &mut order[..o],
         &mut bench[..b],
         &mut out[..u],
-    );
-    let state = a.state;
-    let left = Scene {
-        store: store,
-        order: order,
-        bench: bench,
-        out: out,
-        lent: lent,
-        state: state,
-        away: away,
-        at: p.at,
+    )?;
+    let scene = Scene {
+        store,
+        order,
+        bench,
+        out,
+        state: after.state,
+        ..p
     };
-    Left {
-        scene: left,
-        after: a,
-    }
+    Ok(Left { scene, after })
 }
 
-pub(crate) fn line(s: &[u8], p: Scene, text: &mut [u8]) -> Scene {
+fn item(s: &[u8], p: Scene, page: &mut Page<'_>) -> Result<Scene, Unread> {
+    let q = played(s, p)?;
+    print::item(q.after, q.scene, page);
+    Ok(q.scene)
+}
+
+pub(crate) fn line(s: &[u8], p: Scene, page: &mut Page<'_>) -> Scene {
     let op = byte(s, 0);
     if op == b'R' {
-        return lend(s, p, text);
+        return lend(s, p, page);
     }
     if op == b'.' {
-        return moved(p, put::bytes(b".\n", text, p.at));
+        page.bytes(b".\n");
+        return p;
     }
-    if pack::is_of(op) {
-        return pack::line(s, op, p, text);
+    let q = if pack::is_of(op) {
+        pack::line(s, op, p, page)
+    } else {
+        item(s, p, page)
+    };
+    match q {
+        Ok(left) => left,
+        Err(why) => {
+            print::unplayed(why, page);
+            p
+        }
     }
-    let q = played(s, p);
-    let left = q.scene;
-    let after = q.after;
-    moved(left, print::item(after, left, text))
 }

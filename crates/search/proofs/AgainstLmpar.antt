@@ -27,8 +27,8 @@ use Rattle.search.specs.Search.{Flagged, answer_of, search_call}
 use Rattle.search.specs.Enorm.{minpack_enorm}
 use Rattle.search.specs.Lmpar.{lmpar}
 use Rattle.search.specs.declared.LMParameter.{LMParameter}
-use Rattle.search.specs.declared.trust_region.Found.TheVariants as found
-use Rattle.search.specs.declared.trust_region.SearchTold.{SearchTold}
+use Rattle.std.specs.Prelude.{Ok}
+use Rattle.leaves.specs.declared.reply.Told.{Told}
 use Rattle.search.specs.contracts.trust_region.determine_lambda_and_parameter_update.{signature}
 use Rattle.search.proofs.trust_region.determine_lambda_and_parameter_update.Reads as search
 use Rattle.search.proofs.trust_region.determine_lambda_and_parameter_update.Kinds as kinds
@@ -36,7 +36,7 @@ use Rattle.search.proofs.AgainstEnorm.{enorm_is_norm}
 use Rattle.search.proofs.LmparTrials.{given_of}
 use Rattle.search.proofs.LmparStart.{answer_is_lmpar}
 use Rattle.search.proofs.LmparCalls.{fits, answers_as_lmpar}
-use Rattle.search.specs.Answers.{found_of}
+use Rattle.leaves.specs.Reply.{reply_of}
 use Rattle.search.specs.Against.{lent_of}
 
 pub search_is_lmpar : (unset : Float) (p : Problem) (initial : Float) (a : LMParameter) (step : List Float)
@@ -58,19 +58,19 @@ search-answers_as_lmpar unset st order diag radius lambda store out a h wide =
     (inl (omega (arith, diagonal-length 0 (load st.n store).upper, (fits st order diag radius lambda store out a h).upper_wide)))
 
 -- any outcome that meets the contract's equation
-outcome_is_lmpar : (unset : Float) (st : State) (order : List ℕ) (diag : List Float) (radius lambda : Float) (store out : List Float) (r : SearchTold) {store' out' : List Float} (a : LMParameter) (seen : Ranges)
-    → ended (found_of r.answer) r.state store' out' ≡ search_call st order diag radius lambda store out
-    → r.answer ≡ found.Answer a seen → st.n ≤ st.m
+outcome_is_lmpar : (unset : Float) (st : State) (order : List ℕ) (diag : List Float) (radius lambda : Float) (store out : List Float) (r : Told Flagged State) {store' out' : List Float} (a : LMParameter) (seen : Ranges)
+    → ended (reply_of r.answer) r.state store' out' ≡ search_call st order diag radius lambda store out
+    → r.answer ≡ Ok (a, seen) → st.n ≤ st.m
     → lmpar (minpack_enorm unset) dwarf (lent_of st order diag radius store) lambda ≡ record { x = take st.n out'; par = a.lambda; qrsolvs = a.trials }
 outcome_is_lmpar unset st order diag radius lambda store out r a seen e h wide =
-    let reply = ap (λ (x : Ended Flagged). x.reply) (sym e) ∙ ap found_of h in
+    let reply = ap (λ (x : Ended Flagged). x.reply) (sym e) ∙ ap reply_of h in
     let written = ap (λ (x : Ended Flagged). x.out) (sym e) in
     search-answers_as_lmpar unset st order diag radius lambda store out (a, seen) reply wide
     ∙ ap (λ (x : List Float). record { x = take st.n x; par = a.lambda; qrsolvs = a.trials }) written
 
 -- The code: `Post` is what the source's `ensures` says of an answer r and of the lent slices at exit.
-pub determine_lambda_and_parameter_update_is_lmpar : (unset : Float) (κs : Lfts 4) (c : ArgsD signature κs) (r : SearchTold) (s : AtExit (ended_of 4 kinds.ps kinds.r) κs) (a : LMParameter) (seen : Ranges)
-    → search.Post κs c r s → r.answer ≡ found.Answer a seen
+pub determine_lambda_and_parameter_update_is_lmpar : (unset : Float) (κs : Lfts 4) (c : ArgsD signature κs) (r : Told Flagged State) (s : AtExit (ended_of 4 kinds.ps kinds.r) κs) (a : LMParameter) (seen : Ranges)
+    → search.Post κs c r s → r.answer ≡ Ok (a, seen)
     → (let st = c.0 in
     let store = c.1.0.now in
     let order = c.1.1.0.now in

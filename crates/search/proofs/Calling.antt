@@ -1,15 +1,17 @@
 -- The search as its callers see it, from its tests and its run. Assumes nothing.
 use mathlib.Core.Path.{◌≡◌, refl, sym, ap, ◌∙◌}
-use mathlib.Core.Bool.{false, not}
+use mathlib.Core.Bool.{true, false, not}
 use mathlib.Core.List.{List, [], ◌∷◌, ◌++◌, append-nil, append_assoc}
-use Prim.Native.Nat.{ℕ, ◌-◌, ◌≤◌, ◌<◌, ◌+◌, min}
+use Prim.Native.Nat.{ℕ, ◌-◌, ◌≤◌, ◌+◌, min}
 use native.Mathlib.Omega.{arith}
 use lib.Dec.{ltb}
-use lib.ListN.{length, get_or, take, drop, length-append, length-replicate, take-append-drop, drop_of_length-le}
+use lib.ListN.{length, take, drop, length-append, length-replicate, take-append-drop, drop_of_length-le}
 use lib.Seq.{take_all, drop-drop, length-take-le}
 use lib.Ieee.{Float}
 use borrow.Author.Tests.{ne_eqb, le-ltb}
-use Rattle.leaves.specs.Reply.{Reply, answered, refused}
+use Rattle.std.specs.Prelude.{Result, Ok, Err, is_ok}
+use Rattle.leaves.specs.Reply.{Reply, answered, refused, reply_of}
+use Rattle.leaves.specs.declared.reply.Refusal.{Refusal}
 use Rattle.leaves.specs.Number.{plus_zero}
 use Rattle.leaves.specs.Norm.{ranges_of}
 use Rattle.leaves.specs.declared.norm.Ranges.{Ranges}
@@ -25,46 +27,37 @@ use Rattle.factor.specs.declared.state.Held.TheVariants as held
 use Rattle.leaves.proofs.Refusals.{passed_iff, call-refused, call-worked, earlier_passed}
 use Rattle.factor.proofs.Passed.{solve_passed}
 use Rattle.leaves.proofs.Splices.{drop-take}
+use Rattle.leaves.specs.declared.lent.Order.{Order}
 use Rattle.search.specs.Problem.{Problem, placed}
 use Rattle.search.specs.Measured.{measured_by}
 use Rattle.search.specs.Search.{Answer, Flagged, answer_of, problem_of, search_tests, searched, search_call}
-use Rattle.search.specs.inner.Read.{Ready}
-use Rattle.search.specs.declared.LMParameter.{LMParameter}
+use Rattle.search.specs.declared.lent.TrustRegion.{TrustRegion}
+use Rattle.search.specs.inner.Read.{Ready, with_step, Saw}
+use Rattle.search.specs.inner.Asked.{asked}
 use Rattle.search.proofs.Shapes.{placed-length, scatter_fresh}
-use Rattle.search.proofs.Workings.{order_long, order_below}
 
 -- ---- with the step written, on an output of exactly n numbers
 into_answered : (xs out : List Float) → length xs ≡ length out → xs ≡ written xs out
 into_answered xs out h = sym (ap (λ (z : List Float). xs ++ z) (drop_of_length-le out {i = length xs} (omega arith)) ∙ append-nil xs)
 
-pub step_written : (st : State) (s out : List Float) {x : Reply Answer} {seen all : Ranges} (a : LMParameter) (p : List Float) {s' out' : List Float}
-    → answered (a, p) ≡ x → seen ≡ all → s' ≡ s → out' ≡ p → length p ≡ length out → ended (answered (a, seen)) (with_held st held.Nothing) s' out' ≡ searched st s out all x
-step_written st s out {all = all} a p h g e f l =
-    rw (← h, g, e, f) (ap (λ (z : List Float). ended (answered (a, all)) (with_held st held.Nothing) s z) (into_answered p out l))
-
-pub not_written : (st : State) (s out : List Float) {x : Reply Answer} (all : Ranges) (k : ℕ) {s' : List Float} → refused k ≡ x → s' ≡ s
-    → ◌≡◌ {A = Ended Flagged} (ended (refused k) (with_held st held.Nothing) s' out) (searched st s out all x)
-not_written st s out all k h e = rw (← h, e)
+pub step_written : (st : State) (s out : List Float) (r : Result Flagged Refusal) (p : List Float) {x : Reply Answer} (all : Ranges) {s' out' : List Float} → is_ok r ≡ true
+    → with_step r p ≡ x → Saw r all → s' ≡ s → out' ≡ p → length p ≡ length out → ended (reply_of r) (with_held st held.Nothing) s' out' ≡ searched st s out all x
+step_written st s out (Ok a) p all i h g e f l = rw (← h, g, e, f) (ap (λ (z : List Float). ended (answered (a.0, all)) (with_held st held.Nothing) s z) (into_answered p out l))
+step_written st s out (Err k) p all i h g e f l = cc
 
 -- ---- the step of an answer, each number at its column
-pub placing : (st : State) (store : List Float) (order : List ℕ) → Ready st store order → (w : List Float) → length w ≡ st.n
-    → (length w ≤ length order) × ((k : ℕ) → k < length w → get_or order k 0 < length w)
-placing st store order e w l = (rw l (order_long st store order e), rw l (order_below st store order e))
-
-module _ (st : State) (store : List Float) (order : List ℕ) (e : Ready st store order) (diag : List Float) (radius : Float) (r : Room) (w : List Float) (l : length w ≡ st.n) where
-  abbrev asked : Problem
-  asked = problem_of st order diag radius r
-
-  pub placed_long : length (placed asked w) ≡ st.n
+module _ (t : TrustRegion) (w : List Float) (l : length w ≡ t.st.n) where
+  pub placed_long : length (placed (asked t) w) ≡ t.st.n
   unfolding placed
-  placed_long = placed-length (take st.n order) w ∙ l
+  placed_long = placed-length (take t.st.n t.order.places.now) w ∙ l
 
-  pub step_placed : (out : List Float) {out' : List Float} → length out ≡ st.n → out' ≡ scatter (take (length w) order) w out → out' ≡ placed asked w
+  pub step_placed : (o : Order) (w' out : List Float) {out' : List Float} → o ≡ t.order → w' ≡ w → length out ≡ t.st.n → out' ≡ scatter (take o.n o.places.now) w' out → out' ≡ placed (asked t) w
   unfolding placed
-  step_placed out o h =
-      let p = solve_passed st (length store) order st.n e in
-      h ∙ ap (λ (k : ℕ). scatter (take k order) w out) l
-      ∙ scatter_fresh st.n order w out (zeros (length w)) p.permuted p.order_long l o (length-replicate (length w) plus_zero ∙ l)
+  step_placed o w' out e f z h =
+      let p = solve_passed t.st (length t.store.now) t.order.places.now t.st.n t.ready in
+      h ∙ ap (λ (x : Order). scatter (take x.n x.places.now) w' out) e ∙ ap (λ (x : List Float). scatter (take t.order.n t.order.places.now) x out) f
+      ∙ ap (λ (k : ℕ). scatter (take k t.order.places.now) w out) t.order_n
+      ∙ scatter_fresh t.st.n t.order.places.now w out (zeros (length w)) p.permuted p.order_long l z (length-replicate (length w) plus_zero ∙ l)
 
 -- ---- an output of which the first n were lent
 surplus : (n k : ℕ) (out : List Float) → k ≤ n → drop k (take n out) ++ drop n out ≡ drop k out

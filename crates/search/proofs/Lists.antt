@@ -57,24 +57,24 @@ quotients_at (x ∷ xs) [] i h k = absurd (not-suc-le-zero k)
 quotients_at (x ∷ xs) (d ∷ ds) zero h k = refl
 quotients_at (x ∷ xs) (d ∷ ds) (suc i) h k = quotients_at xs ds i (le_of_suc-le-suc h) (le_of_suc-le-suc k)
 
-module _ (xs : List Float) (order : List ℕ) (ds : List Float) (h : length xs ≤ length order) where
+module _ (n : ℕ) (xs : List Float) (order : List ℕ) (ds : List Float) (e : length xs ≡ n) (h : n ≤ length order) where
   abbrev gathered : List Float
-  gathered = gather (take (length xs) order) ds
+  gathered = gather (take n order) ds
 
   pub gathered_length : length gathered ≡ length xs
-  gathered_length = gather-length (take (length xs) order) ds ∙ length-take-le (length xs) order h
+  gathered_length = gather-length (take n order) ds ∙ length-take-le n order h ∙ sym e
 
   pub quotient_length : length (quotients xs gathered) ≡ length xs
   quotient_length = quotients-length xs gathered (sym gathered_length)
 
-  pub quotient_turn : (w : List Float) (i : ℕ) → i < length xs → w ≡ front i (quotients xs gathered) xs
+  pub quotient_turn : (w : List Float) (i : ℕ) → i < n → w ≡ front i (quotients xs gathered) xs
       → div binary64 (get_or w i nan) (get_or ds (get_or order i 0) nan) ≡ get_or (quotients xs gathered) i nan
-  quotient_turn w i k e =
+  quotient_turn w i k f =
       let l = quotient_length in
       let z = gathered_length in
-      ap (λ (x : Float). div binary64 x (get_or ds (get_or order i 0) nan)) (front_old (quotients xs gathered) xs w i (omega arith) k e)
-      ∙ ap (div binary64 (get_or xs i nan)) (gathered_at (length xs) order ds i k h)
-      ∙ quotients_at xs gathered i k (omega arith)
+      ap (λ (x : Float). div binary64 x (get_or ds (get_or order i 0) nan)) (front_old (quotients xs gathered) xs w i (omega arith) (omega arith) f)
+      ∙ ap (div binary64 (get_or xs i nan)) (gathered_at n order ds i k h)
+      ∙ quotients_at xs gathered i (omega arith) (omega arith)
 
 -- ---- products with a scaling of exactly n numbers
 pub by_scaling_lem : (n : ℕ) (xs ds : List Float) {v : List Float} → length ds ≡ n → v ≡ product_all xs ds → v ≡ product_all xs (take n ds)

@@ -5,6 +5,9 @@ use mathlib.Core.List.{List, [], ◌∷◌}
 use Prim.Native.Nat.{ℕ, suc}
 use lib.ListN.{length}
 use lib.Ieee.{Float}
+use Rattle.std.specs.Prelude.{Result, Ok, Err}
+use Rattle.leaves.specs.declared.reply.Refusal.{Refusal}
+use Rattle.search.specs.declared.LMParameter.{LMParameter}
 use Rattle.leaves.specs.Norm.{norm, neither, either, ranges, ranges_of}
 use Rattle.leaves.specs.declared.norm.Ranges.{Ranges}
 use Rattle.leaves.proofs.Seen.{either-more, ranges_of_none, ranges_of_one, ranges_of-append}
@@ -14,8 +17,6 @@ use Rattle.search.specs.Bounds.{gnorm}
 use Rattle.search.specs.Run.{Next, Trial, next, trials_from}
 use Rattle.search.specs.Measured.{held_by_r, held_by_l, gradient_by, measured_lower, measured_bounds, measured_trials}
 use Rattle.search.specs.inner.Read.{Saw}
-use Rattle.search.specs.declared.trust_region.Found.{Found}
-use Rattle.search.specs.declared.trust_region.Found.TheVariants as found
 
 -- ---- LAWS: the vectors that are listed are those whose norms the search takes
 pub undamped_slope-measured : (p : Problem) (step : List Float) → undamped_slope p step ≡ norm (held_by_r p step)
@@ -54,9 +55,9 @@ seen_again p k s r u w fp c seen v x {mine} {more} {here} {handed} a b m n on e 
     ∙ seen_on seen v x _ (measured_trials p (trials_from p k (next u fp c))) m n on h
 
 -- ---- an answer saw what is the same
-pub saw_same : (r : Found) {x y : Ranges} → Saw r x → x ≡ y → Saw r y
-saw_same (found.Answer a seen) h e = h ∙ e
-saw_same (found.Refused k) h e = tt
+pub saw_same : (r : Result (LMParameter × Ranges) Refusal) {x y : Ranges} → Saw r x → x ≡ y → Saw r y
+saw_same (Ok a) h e = h ∙ e
+saw_same (Err k) h e = tt
 
 -- ---- the bounds, handed what the undamped step's norm saw
 pub seen_bounds : (p : Problem) (step : List Float) {low by : Ranges} → low ≡ cond (non_singular_of p.m (length p.upper) p.upper) (ranges (held_by_r p step)) neither

@@ -5,7 +5,6 @@ pub mod Run
 pub mod Bounds
 pub mod Problem
 pub mod Measured
-pub mod Answers
 -- What the demands say of it: how a run ends, and MINPACK-1 in its own terms.
 pub mod Ending
 pub mod Against

@@ -8,8 +8,7 @@ ghost use Rattle.search.specs.Bounds.{band, upper_bound, first_lambda, raised};
 ghost use Rattle.search.specs.Run.{is_falling, next};
 ghost use Rattle.search.specs.inner.Read.{next_of, bare};
 
-use crate::vectors::Measure;
-use leaves::norm::{Ranges, either};
+use leaves::norm::{Normed, Ranges, either};
 use leaves::number::{abs_within, dwarf, is_negative, max, min};
 
 // What one trial hands to the next: its lambda, the bounds, fp of the trial before, and what the norms so far have seen.
@@ -82,30 +81,29 @@ pub(crate) fn is_falling(s: Going, fp: f64) -> bool
 }
 
 // After the trial of `lambda`, by its fp, what was seen up to it, and its correction.
-pub(crate) fn next_of(s: Going, lambda: f64, fp: f64, seen: Ranges, correction: Measure) -> Going
+pub(crate) fn next_of(s: Going, lambda: f64, fp: f64, seen: Ranges, correction: Normed) -> Going
     ensures result_value { next_of result ≡ next (bare s lambda) fp correction.value }
     ensures seen_value { result.seen ≡ either_of seen correction.seen }
 {
     let old = s.lower;
     let upper = s.upper;
     let c = correction.value;
-    let more = correction.seen;
-    let all = either(seen, more);
+    let all = either(seen, correction.seen);
     if is_negative(fp) {
         return Going {
             lambda: max(old, lambda + c),
             lower: old,
             upper: min(upper, lambda),
-            fp: fp,
+            fp,
             seen: all,
         };
     }
     let lower = max(old, lambda);
     Going {
         lambda: max(lower, lambda + c),
-        lower: lower,
-        upper: upper,
-        fp: fp,
+        lower,
+        upper,
+        fp,
         seen: all,
     }
 }

@@ -5,6 +5,7 @@
 
 mod bounds;
 mod check;
+mod lent;
 mod slopes;
 mod steps;
 mod trials;

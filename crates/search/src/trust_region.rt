@@ -1,99 +1,68 @@
 // Document 01, module 7: the search for lambda and step (`trust_region.rs`).
 ghost use Rattle.std.specs.Prelude.{◌≡◌, length};
+ghost use Rattle.leaves.specs.Reply.{reply_of};
 ghost use Rattle.leaves.specs.Norm.{ranges_of};
-ghost use Rattle.factor.specs.Room.{load, lay, emptied};
+ghost use Rattle.factor.specs.Room.{lay, emptied};
 ghost use Rattle.factor.specs.Outcome.{ended};
 ghost use Rattle.factor.specs.State.{with_held};
 ghost use Rattle.factor.specs.declared.state.Held.TheVariants.{Nothing};
 ghost use Rattle.search.specs.Problem.{placed};
 ghost use Rattle.search.specs.Measured.{measured_by};
 ghost use Rattle.search.specs.Search.{answer_of, searched, search_call};
-ghost use Rattle.search.specs.inner.Read.{lent, Ready, with_step, Saw};
-ghost use Rattle.search.specs.Answers.{found_of};
+ghost use Rattle.search.specs.inner.Read.{with_step, Saw};
 
 use crate::LMParameter;
 use crate::bounds::band_of;
 use crate::check::check_search;
-use crate::steps::{empty, undamped};
-use crate::trials::bounded;
+use crate::lent::TrustRegion;
 use crate::vectors::place;
 use factor::state::{Held, State};
+use leaves::lent::Order;
 use leaves::norm::Ranges;
 use leaves::number::is_finite;
-use leaves::sizes::room16;
+use leaves::reply::{Refusal, Told};
+use leaves::sizes::filled;
 
-// Lambda, scaled norm and the trials run, with what its norms saw (02, #106); or the number of a refusal.
-#[derive(Clone, Copy)]
-pub enum Found {
-    Answer(LMParameter, Ranges),
-    Refused(u8),
-}
+impl TrustRegion<'_, '_> {
+    ghost use Rattle.search.specs.inner.Asked.{asked, room, Kept};
 
-#[derive(Clone, Copy)]
-pub struct SearchTold {
-    pub answer: Found,
-    pub state: State,
-}
-
-// A search whose tests are passed. The step that is answered stands in w.
-fn run(
-    st: State,
-    store: &mut [f64],
-    order: &[usize],
-    diag: &[f64],
-    radius: f64,
-    lambda: f64,
-    v: &mut [f64],
-    w: &mut [f64],
-) -> Found
-    requires ready { Ready st store.old order.now }
-    requires diag_len { (length diag.now ≡ st.n) × (length v.old ≡ st.n) × (length w.old ≡ st.n) }
-    ensures w_after { with_step result (placed (lent st order.now diag.now radius store.old) w.new) ≡ answer_of (lent st order.now diag.now radius store.old) lambda }
-    ensures store_unchanged { emptied (load st.n store.new) ≡ emptied (load st.n store.old) }
-    ensures saw { Saw result (ranges_of (measured_by (lent st order.now diag.now radius store.old) lambda)) }
-{
-    let start = undamped(st, store, order, diag, v, w);
-    let norm = start.value;
-    if !is_finite(norm) {
-        return Found::Refused(8);
-    }
-    if norm - radius <= band_of(radius) {
-        let seen = start.seen;
-        let answer = LMParameter {
-            lambda: 0.0,
-            dp_norm: norm,
-            trials: 0,
-        };
-        return Found::Answer(answer, seen);
-    }
-    bounded(st, store, order, diag, radius, lambda, start, v, w)
-}
-
-// The same, after which the store is emptied and the step of an answer is written.
-fn run_into(
-    st: State,
-    store: &mut [f64],
-    order: &[usize],
-    diag: &[f64],
-    radius: f64,
-    lambda: f64,
-    v: &mut [f64],
-    w: &mut [f64],
-    out: &mut [f64],
-) -> Found
-    requires ready { Ready st store.old order.now }
-    requires diag_len { (length diag.now ≡ st.n) × (length v.old ≡ st.n) × (length w.old ≡ st.n) }
-    requires out_len { length out.old ≡ st.n }
-    ensures { ended (found_of result) (with_held st Nothing) store.new out.new ≡ searched st (lay (emptied (load st.n store.old))) out.old (ranges_of (measured_by (lent st order.now diag.now radius store.old) lambda)) (answer_of (lent st order.now diag.now radius store.old) lambda) }
-{
-    let found = run(st, store, order, diag, radius, lambda, v, w);
-    empty(st, store, order);
-    match found {
-        Found::Answer(a, seen) => {
-            place(order, w, out);
-            Found::Answer(a, seen)
+    // A search whose tests are passed. The step that is answered stands in w.
+    fn run(&mut self, lambda: f64) -> Result<(LMParameter, Ranges), Refusal>
+        ensures kept { Kept self.old self.new }
+        ensures w_after { with_step result (placed (asked self.old) self.new.w.now) ≡ answer_of (asked self.old) lambda }
+        ensures store_unchanged { emptied (room self.new) ≡ emptied (room self.old) }
+        ensures saw { Saw result (ranges_of (measured_by (asked self.old) lambda)) }
+    {
+        let radius = self.radius;
+        let start = self.undamped();
+        let norm = start.value;
+        if !is_finite(norm) {
+            return Err(Refusal::Overflow);
         }
-        Found::Refused(k) => Found::Refused(k),
+        if norm - radius <= band_of(radius) {
+            let answer = LMParameter {
+                lambda: 0.0,
+                dp_norm: norm,
+                trials: 0,
+            };
+            return Ok((answer, start.seen));
+        }
+        self.bounded(lambda, start)
+    }
+
+    // The same, after which the store is emptied and the step of an answer is written.
+    fn run_into(&mut self, lambda: f64, out: &mut [f64]) -> Result<(LMParameter, Ranges), Refusal>
+        requires out_len { length out.old ≡ self.old.st.n }
+        ensures same_store { self.new.store.ghost_name ≡ self.old.store.ghost_name }
+        ensures ended { ended (reply_of result) (with_held self.old.st Nothing) self.new.store.now out.new ≡ searched self.old.st (lay (emptied (room self.old))) out.old (ranges_of (measured_by (asked self.old) lambda)) (answer_of (asked self.old) lambda) }
+    {
+        let found = self.run(lambda);
+        self.empty();
+        if found.is_ok() {
+            let w = &mut *self.w;
+            place(self.order, w, out);
+        }
+        found
     }
 }
 
@@ -116,36 +85,33 @@ pub fn determine_lambda_and_parameter_update(
     radius: f64,
     lambda: f64,
     out: &mut [f64],
-) -> SearchTold
-    ensures { ended (found_of result.answer) result.state store.new out.new ≡ search_call st order.now diag.now radius lambda store.old out.old }
+) -> Told<(LMParameter, Ranges), State>
+    ensures { ended (reply_of result.answer) result.state store.new out.new ≡ search_call st order.now diag.now radius lambda store.old out.old }
 {
-    let c = check_search(st, store.len(), order, diag, radius, lambda, out.len());
-    if c != 0 {
-        return SearchTold {
-            answer: Found::Refused(c),
+    if let Err(no) = check_search(st, store.len(), order, diag, radius, lambda, out.len()) {
+        return Told {
+            answer: Err(no),
             state: st,
         };
     }
     let n = st.n;
-    let mut v = room16();
-    let mut w = room16();
-    let answer = run_into(
+    let mut v: [f64; 16] = filled(0.0);
+    let mut w: [f64; 16] = filled(0.0);
+    let mut region = TrustRegion {
         st,
         store,
-        order,
-        &diag[..n],
+        order: Order { n, places: order },
+        diag: &diag[..n],
         radius,
-        lambda,
-        &mut v[..n],
-        &mut w[..n],
-        &mut out[..n],
-    );
-    SearchTold {
-        answer: answer,
+        v: &mut v[..n],
+        w: &mut w[..n],
+    };
+    let answer = region.run_into(lambda, &mut out[..n]);
+    Told {
+        answer,
         state: State {
-            m: st.m,
-            n: st.n,
             held: Held::Nothing,
+            ..st
         },
     }
 }

@@ -18,17 +18,17 @@ bytes3 x y z = ((0 * 256 + x) * 256 + y) * 256 + z
 abbrev head_by : ℕ → ℕ → ℕ → Head
 head_by x y z = record { version = x / 16; call = x % 16; m = y * 4 + z / 64; n = z % 64 }
 
-pub head_is : (s : List ℕ) (b c : ℕ) → 3 ≤ length s → b ≡ get_or s 1 0 → c ≡ get_or s 2 0 → b < 256 → c < 256 → head_by (get_or s 0 0) b c ≡ head_of s
+pub head_is : (s : List ℕ) → 3 ≤ length s → get_or s 1 0 < 256 → get_or s 2 0 < 256 → head_by (get_or s 0 0) (get_or s 1 0) (get_or s 2 0) ≡ head_of s
 unfolding head_of big
-head_is [] b c l p q hb hc = absurd (omega arith)
-head_is (x ∷ []) b c l p q hb hc = absurd (omega arith)
-head_is (x ∷ y ∷ []) b c l p q hb hc = absurd (omega arith)
-head_is (x ∷ y ∷ z ∷ s) b c l p q hb hc =
+head_is [] l hb hc = absurd (omega arith)
+head_is (x ∷ []) l hb hc = absurd (omega arith)
+head_is (x ∷ y ∷ []) l hb hc = absurd (omega arith)
+head_is (x ∷ y ∷ z ∷ s) l hb hc =
     let v : bytes3 x y z / 2 ^ 20 ≡ x / 16 = omega arith in
     let k : bytes3 x y z / 2 ^ 16 % 2 ^ 4 ≡ x % 16 = omega arith in
     let m : bytes3 x y z / 2 ^ 6 % 2 ^ 10 ≡ y * 4 + z / 64 = omega arith in
     let n : bytes3 x y z % 2 ^ 6 ≡ z % 64 = omega arith in
-    rw (p, q, v, k, m, n)
+    rw (v, k, m, n)
 
 -- ---- four bytes, and eight
 four : (l : List ℕ) → 4 ≤ length l → get_or l 0 0 * 16777216 + get_or l 1 0 * 65536 + get_or l 2 0 * 256 + get_or l 3 0 ≡ big 0 (take 4 l)

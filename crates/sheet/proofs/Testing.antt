@@ -1,5 +1,5 @@
 -- 01, 'Refusal numbers, tested in this order', of a sheet: what the code's tests say of the definition's conditions. Assumes nothing.
-use Prim.Native.Nat.{ℕ, ◌+◌, ◌*◌, ◌-◌, ◌<◌, ◌≤◌}
+use Prim.Native.Nat.{ℕ, ◌+◌, ◌*◌, ◌<◌, ◌≤◌}
 use mathlib.Core.Path.{◌≡◌, sym, ap, ◌∙◌}
 use mathlib.Core.Logic.{◌≢◌}
 use mathlib.Core.Bool.{Bool, true, false, not, ◌||◌}
@@ -8,13 +8,12 @@ use borrow.Author.Tests.{eq-eqb, ne_eqb, lt-ltb, le-ltb}
 use lib.Dec.{eqb, ltb}
 use lib.ListN.{length, take, drop, get_or, length-drop}
 use lib.Seq.{drop-drop}
-use borrow.Author.Rules.{part_to_end}
 use lib.Ieee.{Float, nan}
 use native.Mathlib.Omega.{arith}
 use Rattle.leaves.specs.Tests.{outside, first_of, all_finite}
 use Rattle.leaves.proofs.Insides.{inside, jacobian_small}
 use Rattle.leaves.proofs.Refusals.{past, test_met}
-use Rattle.sheet.specs.Sheet.{Task, search, start, lasts, count_of, length_of, task_of, job_of}
+use Rattle.sheet.specs.Sheet.{search, start, lasts, count_of, length_of, task_of, job_of}
 use Rattle.sheet.specs.Tests.{task_tests, number_tests}
 use Rattle.sheet.specs.declared.head.Head.{Head}
 
@@ -63,15 +62,12 @@ pub start_ends : (call n : ℕ) (xs : List Float) → n + lasts call ≤ length 
 start_ends call n xs h e = rw (ne_eqb _ _ e) at h
 
 -- ---- 6, then 7
-module _ (h : Head) (xs : List Float) (e : length xs ≡ count_of h) (o : outside h.m h.n ≡ false) {b : Bool} (f : b ≡ all_finite xs) where
+module _ (h : Head) (xs : List Float) {b : Bool} (f : b ≡ all_finite xs) where
   finite_is : not (all_finite xs) ≡ not b
   finite_is = ap not (sym f)
 
   pub numbers-bad : not b ≡ true → 6 ≡ first_of (number_tests h xs)
   numbers-bad t = sym (test_met _ _ (finite_is ∙ t))
 
-  pub numbers_good : not b ≡ false → {k : ℕ} → k ≡ first_of (task_tests (task_of h.call h.n (take (length xs - (h.m * h.n + h.m)) (drop (h.m * h.n + h.m) xs)))) → k ≡ first_of (number_tests h xs)
-  numbers_good t r =
-      let w = whole h xs e o in
-      past _ _ (finite_is ∙ t)
-      (r ∙ ap (λ (l : List Float). first_of (task_tests (task_of h.call h.n l))) (part_to_end xs (h.m * h.n + h.m)) ∙ ap (λ (u : Task). first_of (task_tests u)) (task_is h xs e o))
+  pub numbers_good : not b ≡ false → {k : ℕ} → k ≡ first_of (task_tests (job_of h xs).task) → k ≡ first_of (number_tests h xs)
+  numbers_good t = past _ _ (finite_is ∙ t)

@@ -40,6 +40,9 @@ lands_next a b l at {p} {m} e f h =
 pub behind : (a l : List ℕ) (at : ℕ) {p : ℕ} {m : List ℕ} → (p, m) ≡ put a at l → p ≡ at + length a
 behind a l at e = ap (λ (x : ℕ × List ℕ). x.0) e
 
+pub as_long : (a l : List ℕ) (at : ℕ) {p : ℕ} {m : List ℕ} → (p, m) ≡ put a at l → length m ≡ length l
+as_long a l at e = ap (λ (x : ℕ × List ℕ). length x.1) e ∙ length-sets l at a
+
 -- ---- how long
 pub double_long : (x : Float) → length (double x) ≡ 16
 double_long x = digits-length 16 16 _

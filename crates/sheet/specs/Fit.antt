@@ -1,7 +1,8 @@
 -- 01, 'Job sheet and its program': the working of a sheet, by the calls of the lower crates in rooms of its own. A call's refusal is the
 -- sheet's. Its flags are dropped: what is printed has none (02, #106).
-use Rattle.std.specs.Prelude.{ℕ, true, false, List, eqb, length, replicate, Float}
-use Rattle.leaves.specs.Reply.{Reply, answered, refused}
+use Rattle.std.specs.Prelude.{ℕ, true, false, List, eqb, length, replicate, Float, Result, Ok, Err}
+use Rattle.leaves.specs.Reply.{Reply, answered, refused, refusal_number}
+use Rattle.leaves.specs.declared.reply.Refusal.{Refusal}
 use Rattle.leaves.specs.declared.norm.Ranges.{Ranges}
 use Rattle.leaves.specs.Number.{plus_zero}
 use Rattle.leaves.specs.Square.{zeros}
@@ -24,10 +25,18 @@ pub data Fit : Type 0 where
   searched : Fitted → Fit
   started : Float → Fitted → Fit
 
-abbrev pub fit_of : Answer → Reply Fit
-fit_of (answer.Searched f) = answered (searched f)
-fit_of (answer.Started t) = answered (started t.radius t.fitted)
-fit_of (answer.Refused k) = refused k
+abbrev pub fit_in : Answer → Fit
+fit_in (answer.Searched f) = searched f
+fit_in (answer.Started t) = started t.radius t.fitted
+
+abbrev pub fit_of : Result Answer Refusal → Reply Fit
+fit_of (Ok a) = answered (fit_in a)
+fit_of (Err r) = refused (refusal_number r)
+
+-- an answer that comes from anywhere: its refusal may have any number
+abbrev pub numbered_of : Result Answer ℕ → Reply Fit
+numbered_of (Ok a) = answered (fit_in a)
+numbered_of (Err k) = refused k
 
 -- an answer, and the lent step after it
 pub record Finished (A : Type 0) : Type 0 where

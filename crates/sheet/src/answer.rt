@@ -1,4 +1,4 @@
-// What the working of a sheet answers. A refusal carries document 01's number. It tells the columns: a caller need not read the head.
+// What the working of a sheet answers. It tells the columns: a caller need not read the head.
 
 // What a search tells beside its step, which has a number for each of the columns.
 #[derive(Clone, Copy)]
@@ -21,5 +21,4 @@ pub struct Started {
 pub enum Answer {
     Searched(Fitted),
     Started(Started),
-    Refused(u8),
 }

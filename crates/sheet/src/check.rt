@@ -1,10 +1,13 @@
 // Document 01, 'Refusal numbers, tested in this order': the tests of a sheet.
-ghost use Rattle.std.specs.Prelude.{◌≡◌, false, ◌+◌, ◌≤◌, length, take};
-ghost use Rattle.leaves.specs.Tests.{first_of, outside as outside_of};
-ghost use Rattle.sheet.specs.Sheet.{search, lasts, count_of, task_of};
+ghost use Rattle.std.specs.Prelude.{◌≡◌, ◌≤◌};
+ghost use Rattle.leaves.specs.Reply.{failed_by};
+ghost use Rattle.leaves.specs.Tests.{first_of};
+ghost use Rattle.sheet.specs.Sheet.{search, count_of, task_of};
 ghost use Rattle.sheet.specs.Tests.{unknown, task_tests, field_tests, number_tests};
 
 use crate::head::Head;
+use crate::sized::{Numbers, Rest, Sizes};
+use leaves::reply::Refusal;
 use leaves::sizes::outside;
 use leaves::vector::{all_finite, none_zero};
 
@@ -22,77 +25,85 @@ fn unknown_call(h: Head) -> bool
     call != 2
 }
 
-// How many numbers stand behind the head.
-pub(crate) fn count_of(h: Head) -> usize
-    requires { outside_of h.m h.n ≡ false }
-    ensures { (result ≡ count_of h) × (result ≤ 2194) }
-{
-    let m = h.m;
-    let n = h.n;
-    let call = h.call;
-    if call == 1 {
-        return m * n + m + n + 2;
+impl Sizes {
+    // How many numbers stand behind the head.
+    pub(crate) fn count(self) -> usize
+        ensures { (result ≡ count_of self.head) × (result ≤ 2194) }
+    {
+        let m = self.head.m;
+        let n = self.head.n;
+        if self.head.call == 1 {
+            return m * n + m + n + 2;
+        }
+        m * n + m + n + 1
     }
-    m * n + m + n + 1
 }
 
 // Tests 1 to 3, of a head and two lengths: the sheet's, and that of the lent step.
-pub(crate) fn check_fields(h: Head, len: usize, room: usize) -> u8
-    ensures { result ≡ first_of (field_tests h len room) }
+pub(crate) fn check_fields(h: Head, len: usize, room: usize) -> Result<(), Refusal>
+    ensures { failed_by result ≡ first_of (field_tests h len room) }
 {
-    let m = h.m;
     let n = h.n;
     if unknown_call(h) {
-        return 1;
+        return Err(Refusal::Sheet);
     }
-    if outside(m, n) {
-        return 2;
+    if outside(h.m, n) {
+        return Err(Refusal::Sizes);
     }
-    if len != 3 + 8 * count_of(h) {
-        return 3;
+    let k = Sizes { head: h }.count();
+    if len != 3 + 8 * k {
+        return Err(Refusal::Length);
     }
     if room < n {
-        return 3;
+        return Err(Refusal::Length);
     }
-    0
+    Ok(())
 }
 
 // Test 7 of call 1.
-fn check_search(diag: &[f64], n: usize, radius: f64, lambda: f64) -> u8
-    requires { n ≤ length diag.now }
-    ensures { result ≡ first_of (task_tests (search (take n diag.now) radius lambda)) }
+fn check_search(diag: &[f64], radius: f64, lambda: f64) -> Result<(), Refusal>
+    ensures { failed_by result ≡ first_of (task_tests (search diag.now radius lambda)) }
 {
     if radius <= 0.0 {
-        return 7;
+        return Err(Refusal::Range);
     }
     if lambda < 0.0 {
-        return 7;
+        return Err(Refusal::Range);
     }
-    if none_zero(&diag[..n]) { 0 } else { 7 }
+    if none_zero(diag) {
+        Ok(())
+    } else {
+        Err(Refusal::Range)
+    }
 }
 
-// Test 7, of what stands behind the residuals.
-fn check_task(call: u8, n: usize, rest: &[f64]) -> u8
-    requires { n + lasts call ≤ length rest.now }
-    ensures { result ≡ first_of (task_tests (task_of call n rest.now)) }
-{
-    if call == 1 {
-        return check_search(rest, n, rest[n], rest[n + 1]);
+impl Rest<'_> {
+    // Test 7.
+    fn check(&self) -> Result<(), Refusal>
+        ensures { failed_by result ≡ first_of (task_tests (task_of self.now.call self.now.n self.now.xs.now)) }
+    {
+        let rest = self.xs;
+        let n = self.n;
+        if self.call == 1 {
+            return check_search(&rest[..n], rest[n], rest[n + 1]);
+        }
+        if rest[n] <= 0.0 {
+            Err(Refusal::Range)
+        } else {
+            Ok(())
+        }
     }
-    if rest[n] <= 0.0 { 7 } else { 0 }
 }
 
-// Tests 6 and 7.
-pub(crate) fn check_numbers(h: Head, xs: &[f64]) -> u8
-    requires xs_len { length xs.now ≡ count_of h }
-    requires n_value { outside_of h.m h.n ≡ false }
-    ensures { result ≡ first_of (number_tests h xs.now) }
-{
-    let m = h.m;
-    let n = h.n;
-    if !all_finite(xs) {
-        return 6;
+impl Numbers<'_> {
+    // Tests 6 and 7.
+    pub(crate) fn check(&self) -> Result<(), Refusal>
+        ensures { failed_by result ≡ first_of (number_tests self.now.of.head self.now.xs.now) }
+    {
+        if !all_finite(self.xs) {
+            return Err(Refusal::NotFinite);
+        }
+        let rest = self.rest();
+        rest.check()
     }
-    let a = m * n + m;
-    check_task(h.call, n, &xs[a..])
 }

@@ -1,5 +1,5 @@
 // Document 01, 'Job sheet and its program': the head of a sheet, 24 bits, most significant bit first.
-ghost use Rattle.std.specs.Prelude.{◌≡◌, ◌<◌, ◌≤◌, length};
+ghost use Rattle.std.specs.Prelude.{◌≡◌, ◌≤◌, length};
 ghost use Rattle.sheet.specs.Sheet.{head_of};
 
 #[derive(Clone, Copy)]
@@ -10,20 +10,14 @@ pub struct Head {
     pub n: usize,
 }
 
-fn size(x: u8) -> usize
-    ensures { (result ≡ x) × (result < 256) }
-{
-    x as usize
-}
-
 // Version 4 bits, call 4, m 10, n 6.
 pub(crate) fn head_of(s: &[u8]) -> Head
     requires { 3 ≤ length s.now }
     ensures { result ≡ head_of s.now }
 {
     let b0 = s[0];
-    let b1 = size(s[1]);
-    let b2 = size(s[2]);
+    let b1 = s[1] as usize;
+    let b2 = s[2] as usize;
     Head {
         version: b0 / 16,
         call: b0 % 16,

@@ -1,101 +1,93 @@
 // Document 01, 'Job sheet and its program': a sheet worked, from its bytes to its answer.
-ghost use Rattle.std.specs.Prelude.{◌≡◌, false, ◌+◌, ◌≤◌, length};
-ghost use Rattle.leaves.specs.Tests.{outside, first_of};
-ghost use Rattle.sheet.specs.Sheet.{count_of, length_of, lasts, task_of, job_of};
-ghost use Rattle.sheet.specs.Tests.{field_tests};
+ghost use Rattle.std.specs.Prelude.{◌≡◌, length};
+ghost use Rattle.sheet.specs.Sheet.{count_of, task_of, job_of};
 ghost use Rattle.sheet.specs.Fit.{fit_of, finished, task_from, worked_in, worked, sheet_call};
 ghost use Rattle.sheet.specs.inner.Handed.{numbers_call};
 
 use crate::answer::Answer;
-use crate::check::{check_fields, check_numbers, count_of};
-use crate::head::{Head, head_of};
+use crate::check::check_fields;
+use crate::head::head_of;
 use crate::number::doubles_into;
-use crate::room;
 use crate::seek::{search, start};
+use crate::sized::{Bytes, Numbers, Rest, Sizes};
 use factor::pivoted_qr::pivoted_qr;
 use factor::state::State;
-use leaves::reply::Ranged;
+use leaves::reply::Refusal;
+use leaves::sizes::filled;
 
-// What stands behind the residuals, after a factoring.
-fn task(
-    call: u8,
-    n: usize,
-    rest: &[f64],
-    st: State,
-    store: &mut [f64],
-    order: &[usize],
-    step: &mut [f64],
-) -> Answer
-    requires { n + lasts call ≤ length rest.now }
-    ensures { finished (fit_of result) step.new ≡ task_from (task_of call n rest.now) st order.now store.old step.old }
-{
-    if call == 1 {
-        let radius = rest[n];
-        let lambda = rest[n + 1];
-        return search(st, store, order, &rest[..n], radius, lambda, step);
-    }
-    let bound = rest[n];
-    start(st, store, order, &rest[..n], bound, step)
-}
-
-fn work_in(
-    h: Head,
-    xs: &[f64],
-    store: &mut [f64],
-    order: &mut [usize],
-    bench: &mut [f64],
-    step: &mut [f64],
-) -> Answer
-    requires xs_len { length xs.now ≡ count_of h }
-    requires n_value { outside h.m h.n ≡ false }
-    ensures { finished (fit_of result) step.new ≡ worked_in (job_of h xs.now) store.old order.old bench.old step.old }
-{
-    let m = h.m;
-    let n = h.n;
-    let a = m * n;
-    let e = a + m;
-    let f = pivoted_qr(m, n, &xs[..a], &xs[a..e], store, order, bench);
-    let told = f.answer;
-    let st = f.state;
-    match told {
-        Ranged::Seen(_) => task(h.call, n, &xs[e..], st, store, order, step),
-        Ranged::Refused(k) => Answer::Refused(k),
+impl Rest<'_> {
+    // The call, after a factoring.
+    fn work(
+        &self,
+        st: State,
+        store: &mut [f64],
+        order: &[usize],
+        step: &mut [f64],
+    ) -> Result<Answer, Refusal>
+        ensures { finished (fit_of result) step.new ≡ task_from (task_of self.now.call self.now.n self.now.xs.now) st order.now store.old step.old }
+    {
+        let rest = self.xs;
+        let n = self.n;
+        if self.call == 1 {
+            let radius = rest[n];
+            let lambda = rest[n + 1];
+            return search(st, store, order, &rest[..n], radius, lambda, step);
+        }
+        let bound = rest[n];
+        start(st, store, order, &rest[..n], bound, step)
     }
 }
 
-fn work(h: Head, xs: &[f64], step: &mut [f64]) -> Answer
-    requires xs_len { length xs.now ≡ count_of h }
-    requires n_value { outside h.m h.n ≡ false }
-    ensures { finished (fit_of result) step.new ≡ worked (job_of h xs.now) step.old }
-{
-    let mut store = room::store();
-    let mut order = room::order();
-    let mut bench = room::bench();
-    work_in(h, xs, &mut store, &mut order, &mut bench, step)
-}
-
-// The tests of the numbers, then the working. The numbers go to xs.
-fn work_numbers(h: Head, sheet: &[u8], xs: &mut [f64], step: &mut [f64]) -> Answer
-    requires xs_len { length xs.old ≡ count_of h }
-    requires sheet_len { length sheet.now ≡ length_of h }
-    requires n_value { outside h.m h.n ≡ false }
-    ensures { finished (fit_of result) step.new ≡ numbers_call h sheet.now step.old }
-{
-    doubles_into(sheet, xs);
-    let c = check_numbers(h, xs);
-    if c != 0 {
-        return Answer::Refused(c);
+impl Numbers<'_> {
+    fn work_in(
+        &self,
+        store: &mut [f64],
+        order: &mut [usize],
+        bench: &mut [f64],
+        step: &mut [f64],
+    ) -> Result<Answer, Refusal>
+        ensures { finished (fit_of result) step.new ≡ worked_in (job_of self.now.of.head self.now.xs.now) store.old order.old bench.old step.old }
+    {
+        let xs = self.xs;
+        let h = self.of.head;
+        let m = h.m;
+        let n = h.n;
+        let a = m * n;
+        let f = pivoted_qr(m, n, &xs[..a], &xs[a..a + m], store, order, bench);
+        f.answer?;
+        let rest = self.rest();
+        rest.work(f.state, store, order, step)
     }
-    work(h, xs, step)
+
+    fn work(&self, step: &mut [f64]) -> Result<Answer, Refusal>
+        ensures { finished (fit_of result) step.new ≡ worked (job_of self.now.of.head self.now.xs.now) step.old }
+    {
+        let mut store: [f64; 320] = filled(0.0);
+        let mut order: [usize; 16] = filled(0);
+        let mut bench: [f64; 2176] = filled(0.0);
+        self.work_in(&mut store, &mut order, &mut bench, step)
+    }
 }
 
-fn work_fields(h: Head, sheet: &[u8], step: &mut [f64]) -> Answer
-    requires { first_of (field_tests h (length sheet.now) (length step.old)) ≡ 0 }
-    ensures { finished (fit_of result) step.new ≡ numbers_call h sheet.now step.old }
-{
-    let k = count_of(h);
-    let mut xs = room::numbers();
-    work_numbers(h, sheet, &mut xs[..k], step)
+impl Bytes<'_> {
+    // The tests of the numbers, then the working. The numbers go to xs.
+    fn work_in(&self, xs: &mut [f64], step: &mut [f64]) -> Result<Answer, Refusal>
+        requires { length xs.old ≡ count_of self.now.of.head }
+        ensures { finished (fit_of result) step.new ≡ numbers_call self.now.of.head self.now.bytes.now step.old }
+    {
+        doubles_into(self.bytes, xs);
+        let numbers = Numbers { of: self.of, xs };
+        numbers.check()?;
+        numbers.work(step)
+    }
+
+    fn work(&self, step: &mut [f64]) -> Result<Answer, Refusal>
+        ensures { finished (fit_of result) step.new ≡ numbers_call self.now.of.head self.now.bytes.now step.old }
+    {
+        let k = self.of.count();
+        let mut xs: [f64; 2194] = filled(0.0);
+        self.work_in(&mut xs[..k], step)
+    }
 }
 
 // Works a job sheet: document 01's call 1 or call 2.
@@ -104,16 +96,15 @@ fn work_fields(h: Head, sheet: &[u8], step: &mut [f64]) -> Answer
 // Answers the fit: radius (call 2), lambda, scaled norm, trials, determined, and how many columns there are.
 // Refused 1, 2, 3, 6, 7 by the sheet's own tests, in this order, over all its fields (3 also where step has under n places), then 8 by the
 // working; step is then as it was.
-pub fn fit(sheet: &[u8], step: &mut [f64]) -> Answer
+pub fn fit(sheet: &[u8], step: &mut [f64]) -> Result<Answer, Refusal>
     ensures { finished (fit_of result) step.new ≡ sheet_call sheet.now step.old }
 {
     if sheet.len() < 3 {
-        return Answer::Refused(1);
+        return Err(Refusal::Sheet);
     }
-    let h = head_of(sheet);
-    let c = check_fields(h, sheet.len(), step.len());
-    if c != 0 {
-        return Answer::Refused(c);
-    }
-    work_fields(h, sheet, step)
+    let head = head_of(sheet);
+    check_fields(head, sheet.len(), step.len())?;
+    let of = Sizes { head };
+    let whole = Bytes { of, bytes: sheet };
+    whole.work(step)
 }

@@ -8,5 +8,5 @@ pub mod job;
 pub mod lines;
 mod number;
 mod put;
-mod room;
 mod seek;
+mod sized;

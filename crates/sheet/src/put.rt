@@ -1,4 +1,4 @@
-// Lines of text into a buffer from a place on. Each function answers the place behind what it wrote.
+// Lines of text onto a page.
 ghost use Rattle.std.specs.Prelude.{◌≡◌, [], ◌∷◌, ◌++◌, ◌+◌, ◌*◌, ◌≤◌, length};
 ghost use Rattle.text.specs.Put.{decimal_of};
 ghost use Rattle.sheet.specs.Lines.{line, double, step_word, step_lines, count_lines};
@@ -6,81 +6,84 @@ ghost use Rattle.sheet.specs.inner.Handed.{put};
 
 use crate::answer::Fitted;
 use text::double::bits_of;
-use text::put::{bytes, decimal, word};
+use text::put::Page;
 
 // A word and a space.
-fn put_name(name: &[u8], out: &mut [u8], at: usize) -> usize
-    requires { at + length name.now + 1 ≤ length out.old }
-    ensures out_after { (result, out.new) ≡ put (name.now ++ (32 ∷ [])) at out.old }
-    ensures value { result ≡ at + length name.now + 1 }
+fn put_name(name: &[u8], page: &mut Page<'_>)
+    requires { page.old.at + length name.now + 1 ≤ length page.old.out.now }
+    ensures out_after { (page.new.at, page.new.out.now) ≡ put (name.now ++ (32 ∷ [])) page.old.at page.old.out.now }
+    ensures value { page.new.at ≡ page.old.at + length name.now + 1 }
+    ensures same_out { page.new.out.ghost_name ≡ page.old.out.ghost_name }
 {
-    let p = bytes(name, out, at);
-    bytes(b" ", out, p)
+    page.bytes(name);
+    page.bytes(b" ");
 }
 
 // A double and the end of the line.
-fn put_double(x: f64, out: &mut [u8], at: usize) -> usize
-    requires { at + 17 ≤ length out.old }
-    ensures out_after { (result, out.new) ≡ put (double x ++ (10 ∷ [])) at out.old }
-    ensures value { result ≡ at + 17 }
+fn put_double(x: f64, page: &mut Page<'_>)
+    requires { page.old.at + 17 ≤ length page.old.out.now }
+    ensures out_after { (page.new.at, page.new.out.now) ≡ put (double x ++ (10 ∷ [])) page.old.at page.old.out.now }
+    ensures value { page.new.at ≡ page.old.at + 17 }
+    ensures same_out { page.new.out.ghost_name ≡ page.old.out.ghost_name }
 {
-    let p = word(bits_of(x), out, at);
-    bytes(b"\n", out, p)
+    page.word(bits_of(x));
+    page.bytes(b"\n");
 }
 
-pub(crate) fn double_line(name: &[u8], x: f64, out: &mut [u8], at: usize) -> usize
-    requires { at + length name.now + 18 ≤ length out.old }
-    ensures out_after { (result, out.new) ≡ put (line name.now (double x)) at out.old }
-    ensures value { result ≡ at + length name.now + 18 }
+pub(crate) fn double_line(name: &[u8], x: f64, page: &mut Page<'_>)
+    requires { page.old.at + length name.now + 18 ≤ length page.old.out.now }
+    ensures out_after { (page.new.at, page.new.out.now) ≡ put (line name.now (double x)) page.old.at page.old.out.now }
+    ensures value { page.new.at ≡ page.old.at + length name.now + 18 }
+    ensures same_out { page.new.out.ghost_name ≡ page.old.out.ghost_name }
 {
-    let p = put_name(name, out, at);
-    put_double(x, out, p)
+    put_name(name, page);
+    put_double(x, page);
 }
 
-pub(crate) fn number_line(name: &[u8], n: u64, out: &mut [u8], at: usize) -> usize
-    requires { at + length name.now + 22 ≤ length out.old }
-    ensures out_after { (result, out.new) ≡ put (line name.now (decimal_of n)) at out.old }
-    ensures upper_bound { result ≤ at + length name.now + 22 }
+pub(crate) fn number_line(name: &[u8], n: u64, page: &mut Page<'_>)
+    requires { page.old.at + length name.now + 22 ≤ length page.old.out.now }
+    ensures out_after { (page.new.at, page.new.out.now) ≡ put (line name.now (decimal_of n)) page.old.at page.old.out.now }
+    ensures upper_bound { page.new.at ≤ page.old.at + length name.now + 22 }
+    ensures same_out { page.new.out.ghost_name ≡ page.old.out.ghost_name }
 {
-    let p = put_name(name, out, at);
-    let q = decimal(n, out, p);
-    bytes(b"\n", out, q)
+    put_name(name, page);
+    page.decimal(n);
+    page.bytes(b"\n");
 }
 
 // One column's line.
-fn step_line(i: usize, x: f64, out: &mut [u8], at: usize) -> usize
-    requires { at + 43 ≤ length out.old }
-    ensures out_after { (result, out.new) ≡ put (line step_word (decimal_of i ++ (32 ∷ []) ++ double x)) at out.old }
-    ensures upper_bound { result ≤ at + 43 }
+fn step_line(i: usize, x: f64, page: &mut Page<'_>)
+    requires { page.old.at + 43 ≤ length page.old.out.now }
+    ensures out_after { (page.new.at, page.new.out.now) ≡ put (line step_word (decimal_of i ++ (32 ∷ []) ++ double x)) page.old.at page.old.out.now }
+    ensures upper_bound { page.new.at ≤ page.old.at + 43 }
+    ensures same_out { page.new.out.ghost_name ≡ page.old.out.ghost_name }
 {
-    let p = put_name(b"step", out, at);
-    let q = decimal(i as u64, out, p);
-    let s = bytes(b" ", out, q);
-    put_double(x, out, s)
+    put_name(b"step", page);
+    page.decimal(i as u64);
+    page.bytes(b" ");
+    put_double(x, page);
 }
 
-pub(crate) fn step_lines(step: &[f64], out: &mut [u8], at: usize) -> usize
-    requires { at + 43 * length step.now ≤ length out.old }
-    ensures out_after { (result, out.new) ≡ put (step_lines 0 step.now) at out.old }
-    ensures upper_bound { result ≤ at + 43 * length step.now }
+pub(crate) fn step_lines(step: &[f64], page: &mut Page<'_>)
+    requires { page.old.at + 43 * length step.now ≤ length page.old.out.now }
+    ensures out_after { (page.new.at, page.new.out.now) ≡ put (step_lines 0 step.now) page.old.at page.old.out.now }
+    ensures upper_bound { page.new.at ≤ page.old.at + 43 * length step.now }
+    ensures same_out { page.new.out.ghost_name ≡ page.old.out.ghost_name }
 {
-    let mut p = at;
-    let mut i: usize = 0;
-    while i < step.len() {
-        p = step_line(i, step[i], out, p);
-        i += 1;
+    for (i, x) in step.iter().enumerate() {
+        step_line(i, *x, page);
     }
-    p
 }
 
 // The lines between the radius and the step.
-pub(crate) fn count_lines(f: Fitted, out: &mut [u8], at: usize) -> usize
-    requires { at + 106 ≤ length out.old }
-    ensures out_after { (result, out.new) ≡ put (count_lines f) at out.old }
-    ensures upper_bound { result ≤ at + 106 }
+pub(crate) fn count_lines(f: Fitted, page: &mut Page<'_>)
+    requires { page.old.at + 106 ≤ length page.old.out.now }
+    ensures out_after { (page.new.at, page.new.out.now) ≡ put (count_lines f) page.old.at page.old.out.now }
+    ensures upper_bound { page.new.at ≤ page.old.at + 106 }
+    ensures same_out { page.new.out.ghost_name ≡ page.old.out.ghost_name }
 {
-    let p = double_line(b"lambda", f.lambda, out, at);
-    let q = double_line(b"norm", f.norm, out, p);
-    let s = number_line(b"trials", f.trials as u64, out, q);
-    number_line(b"determined", f.determined as u64, out, s)
+    double_line(b"lambda", f.lambda, page);
+    double_line(b"norm", f.norm, page);
+    number_line(b"trials", f.trials as u64, page);
+    number_line(b"determined", f.determined as u64, page);
 }

@@ -1,23 +1,17 @@
 // Document 01, 'Job sheet and its program': determined and the search, for call 1 and for call 2, which scales first.
 ghost use Rattle.std.specs.Prelude.{◌≡◌};
+ghost use Rattle.leaves.specs.Reply.{reply_of};
 ghost use Rattle.search.specs.Search.{search_call};
-ghost use Rattle.sheet.specs.Fit.{searched, started, fit_of, finished, mapped, by_search, sought_from, started_from};
-ghost use Rattle.sheet.specs.inner.Handed.{sought_of};
+ghost use Rattle.sheet.specs.Fit.{searched, fit_of, finished, mapped, by_search, sought_from, started_from};
 
 use crate::answer::{Answer, Fitted, Started};
-use crate::room::columns;
 use factor::state::State;
-use leaves::reply::Place;
+use leaves::reply::Refusal;
+use leaves::sizes::filled;
 use measures::measures::determined;
 use measures::scaling::{Mode, Scaling};
 use measures::update_diag::update_diag;
-use search::trust_region::{Found, determine_lambda_and_parameter_update};
-
-#[derive(Clone, Copy)]
-enum Sought {
-    Found(Fitted),
-    Refused(u8),
-}
+use search::trust_region::determine_lambda_and_parameter_update;
 
 // The search, after determined.
 fn seek_from(
@@ -29,21 +23,18 @@ fn seek_from(
     lambda: f64,
     determined: usize,
     step: &mut [f64],
-) -> Sought
-    ensures { finished (sought_of result) step.new ≡ by_search st.n determined (search_call st order.now diag.now radius lambda store.old step.old).reply (search_call st order.now diag.now radius lambda store.old step.old).out }
+) -> Result<Fitted, Refusal>
+    ensures { finished (reply_of result) step.new ≡ by_search st.n determined (search_call st order.now diag.now radius lambda store.old step.old).reply (search_call st order.now diag.now radius lambda store.old step.old).out }
 {
     let s = determine_lambda_and_parameter_update(st, store, order, diag, radius, lambda, step);
-    let found = s.answer;
-    match found {
-        Found::Answer(p, _) => Sought::Found(Fitted {
-            columns: st.n,
-            lambda: p.lambda,
-            norm: p.dp_norm,
-            trials: p.trials,
-            determined: determined,
-        }),
-        Found::Refused(k) => Sought::Refused(k),
-    }
+    let (p, _) = s.answer?;
+    Ok(Fitted {
+        columns: st.n,
+        lambda: p.lambda,
+        norm: p.dp_norm,
+        trials: p.trials,
+        determined,
+    })
 }
 
 fn seek(
@@ -54,36 +45,12 @@ fn seek(
     radius: f64,
     lambda: f64,
     step: &mut [f64],
-) -> Sought
-    ensures { finished (sought_of result) step.new ≡ sought_from st order.now diag.now radius lambda store.old step.old }
+) -> Result<Fitted, Refusal>
+    ensures { finished (reply_of result) step.new ≡ sought_from st order.now diag.now radius lambda store.old step.old }
 {
     let d = determined(st, store);
-    let place = d.answer;
-    match place {
-        Place::At(k) => seek_from(st, store, order, diag, radius, lambda, k, step),
-        Place::Refused(k) => Sought::Refused(k),
-    }
-}
-
-fn as_searched(a: Sought) -> Answer
-    ensures { fit_of result ≡ mapped searched (sought_of a) }
-{
-    match a {
-        Sought::Found(f) => Answer::Searched(f),
-        Sought::Refused(k) => Answer::Refused(k),
-    }
-}
-
-fn as_started(radius: f64, a: Sought) -> Answer
-    ensures { fit_of result ≡ mapped (started radius) (sought_of a) }
-{
-    match a {
-        Sought::Found(f) => Answer::Started(Started {
-            radius: radius,
-            fitted: f,
-        }),
-        Sought::Refused(k) => Answer::Refused(k),
-    }
+    let k = d.answer?;
+    seek_from(st, store, order, diag, radius, lambda, k, step)
 }
 
 // Call 1.
@@ -95,11 +62,11 @@ pub(crate) fn search(
     radius: f64,
     lambda: f64,
     step: &mut [f64],
-) -> Answer
+) -> Result<Answer, Refusal>
     ensures { finished (fit_of result) step.new ≡ finished (mapped searched (sought_from st order.now diag.now radius lambda store.old step.old).reply) (sought_from st order.now diag.now radius lambda store.old step.old).step }
 {
-    let a = seek(st, store, order, diag, radius, lambda, step);
-    as_searched(a)
+    let fitted = seek(st, store, order, diag, radius, lambda, step)?;
+    Ok(Answer::Searched(fitted))
 }
 
 // Call 2.
@@ -110,19 +77,15 @@ pub(crate) fn start(
     x: &[f64],
     bound: f64,
     step: &mut [f64],
-) -> Answer
+) -> Result<Answer, Refusal>
     ensures { finished (fit_of result) step.new ≡ started_from st order.now x.now bound store.old step.old }
 {
-    let mut diag = columns();
+    let mut diag: [f64; 16] = filled(0.0);
     let s = update_diag(st, store, Mode::FirstScaled, &mut diag, x, bound);
-    let scaling = s.answer;
-    match scaling {
-        Scaling::First(t, _) => {
-            let radius = t.radius;
-            let a = seek(st, store, order, &diag, radius, 0.0, step);
-            as_started(radius, a)
-        }
-        Scaling::Later(_) => Answer::Refused(8),
-        Scaling::Refused(k) => Answer::Refused(k),
-    }
+    let Scaling::First(t, _) = s.answer? else {
+        return Err(Refusal::Overflow);
+    };
+    let radius = t.radius;
+    let fitted = seek(st, store, order, &diag, radius, 0.0, step)?;
+    Ok(Answer::Started(Started { radius, fitted }))
 }

@@ -9,8 +9,12 @@
 mod feed;
 mod play;
 
+use leaves::sizes::filled;
+
 fn main(rt: HostRuntime) {
-    let mut line = feed::line();
-    let mut text = feed::text();
+    // Two hex digits for each byte of the longest sheet, with a surplus.
+    let mut line: [u8; 65536] = filled(0);
+    // Much more than a sheet's lines, so that they always fit below the mark where the text is written out.
+    let mut text: [u8; 65536] = filled(0);
     feed::all(rt.stdin(), rt.stdout(), &mut line, &mut text);
 }

@@ -1,93 +1,52 @@
-// One line: its sheet out of hex, and what is printed for it. Each function that prints answers the place behind what it wrote.
-ghost use Rattle.std.specs.Prelude.{◌≡◌, length};
+// One line: its sheet out of hex, and what is printed for it.
 
-use leaves::reply::Place;
+use leaves::sizes::filled;
 use lines::part::within;
 use sheet::lines::fit_lines;
-use text::digit::{Digit, value};
-use text::put::bytes;
-
-// More than the longest sheet.
-fn sheet() -> [u8; 32768] {
-    [0; 32768]
-}
-
-fn lines_room() -> [u8; 1024]
-    ensures { 1024 ≡ length result }
-{
-    [0; 1024]
-}
-
-// Two hex digits.
-#[derive(Clone, Copy)]
-enum Hex {
-    Is(u8),
-    Not,
-}
-
-#[derive(Clone, Copy)]
-enum Bytes {
-    Are(usize),
-    Not,
-}
+use text::digit::value;
+use text::put::Page;
 
 fn joined(high: u64, low: u64) -> u8 {
     (high % 16 * 16 + low % 16) as u8
 }
 
-fn byte_of(a: u8, b: u8) -> Hex {
-    let high = value(a);
-    let low = value(b);
-    let Digit::Is(h) = high else {
-        return Hex::Not;
-    };
-    let Digit::Is(l) = low else {
-        return Hex::Not;
-    };
-    Hex::Is(joined(h, l))
+// Of two hex digits.
+fn byte_of(a: u8, b: u8) -> Option<u8> {
+    Some(joined(value(a)?, value(b)?))
 }
 
-fn unhex(line: &[u8], out: &mut [u8]) -> Bytes {
+// How many bytes there are; None where they are not all hex digits or do not fit.
+fn unhex(line: &[u8], out: &mut [u8]) -> Option<usize> {
     let n = line.len() / 2;
     if line.len() % 2 == 1 {
-        return Bytes::Not;
+        return None;
     }
     if out.len() < n {
-        return Bytes::Not;
+        return None;
     }
-    let mut i: usize = 0;
-    while i < n {
-        let r = byte_of(line[2 * i], line[2 * i + 1]);
-        let Hex::Is(b) = r else {
-            return Bytes::Not;
-        };
-        out[i] = b;
-        i += 1;
+    for i in 0..n {
+        out[i] = byte_of(line[2 * i], line[2 * i + 1])?;
     }
-    Bytes::Are(n)
+    Some(n)
 }
 
-fn fitted(sheet: &[u8], text: &mut [u8], at: usize) -> usize {
-    let mut lines = lines_room();
-    let p = fit_lines(sheet, &mut lines);
-    match p {
-        Place::At(n) => {
-            let k = within(&lines, n);
-            bytes(&lines[..k], text, at)
-        }
-        Place::Refused(_) => at,
+fn fitted(sheet: &[u8], page: &mut Page<'_>) {
+    let mut lines: [u8; 1024] = filled(0);
+    if let Ok(n) = fit_lines(sheet, &mut lines) {
+        let k = within(&lines, n);
+        page.bytes(&lines[..k]);
     }
 }
 
-pub(crate) fn line(line: &[u8], text: &mut [u8], at: usize) -> usize {
-    let mut sheet = sheet();
-    let found = unhex(line, &mut sheet);
-    match found {
-        Bytes::Are(n) => {
+pub(crate) fn line(line: &[u8], page: &mut Page<'_>) {
+    // More than the longest sheet.
+    let mut sheet: [u8; 32768] = filled(0);
+    match unhex(line, &mut sheet) {
+        Some(n) => {
             let k = within(&sheet, n);
-            let p = fitted(&sheet[..k], text, at);
-            bytes(b".\n", text, p)
+            fitted(&sheet[..k], page);
+            page.bytes(b".\n");
         }
-        Bytes::Not => bytes(b"does not parse\n.\n", text, at),
+        None => page.bytes(b"does not parse\n.\n"),
     }
 }

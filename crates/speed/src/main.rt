@@ -17,12 +17,13 @@ ghost use Rattle.std.specs.Prelude.{◌≤◌, length};
 mod away;
 mod make;
 mod play;
-mod room;
 mod script;
 
+use leaves::sizes::filled;
 use std::io::{Read, Stdin};
 
-// Reads until buf is full, the input ends or a read fails, and answers how many bytes came.
+// Reads until buf is full, the input ends or a read fails, and answers how many bytes came. A `while`: done grows by what each read brought,
+// and is no index. In two programs, since nothing can promise what comes from standard input, and what is public promises its answer.
 fn full(mut input: Stdin, buf: &mut [u8]) -> usize
     ensures { result ≤ length buf.new }
 {
@@ -38,7 +39,8 @@ fn full(mut input: Stdin, buf: &mut [u8]) -> usize
 }
 
 fn main(rt: HostRuntime) {
-    let mut text = room::text();
+    // The script and more.
+    let mut text: [u8; 4096] = filled(0);
     let n = full(rt.stdin(), &mut text);
     script::run(rt.stdout(), &text[..n]);
 }

@@ -18,11 +18,9 @@ fn value_of(seed: u64) -> f64 {
 // The seed after the last number.
 pub(crate) fn fill(room: &mut [f64], seed: u64) -> u64 {
     let mut s = seed;
-    let mut i: usize = 0;
-    while i < room.len() {
+    for x in room.iter_mut() {
         s = next(s);
-        room[i] = value_of(s);
-        i += 1;
+        *x = value_of(s);
     }
     s
 }

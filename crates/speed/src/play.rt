@@ -1,15 +1,12 @@
 // One problem after the other, all in the same rooms.
 use crate::away::put_away;
 use crate::make::fill;
-use crate::room;
 use calls::state::State;
-use factor::answer::Truth;
-use lines::part::doubles_within;
-use measures::gradient::Gradient;
-use search::trust_region::Found;
+use leaves::sizes::filled;
+use lines::part::within;
 use std::num::{wrapping_add_usize, wrapping_sub_usize};
 
-// Of the drawn columns the first n are factored, those with a mark frozen.
+// How many problems are made. Of the drawn columns the first n are factored, those with a mark frozen.
 #[derive(Clone, Copy)]
 pub(crate) struct Task {
     pub(crate) m: usize,
@@ -17,6 +14,7 @@ pub(crate) struct Task {
     pub(crate) drawn: usize,
     pub(crate) marks: u16,
     pub(crate) mode: usize,
+    pub(crate) count: usize,
 }
 
 #[derive(Clone, Copy)]
@@ -47,18 +45,14 @@ fn entry_of(norm: f64) -> f64 {
 // The first scaling: the column norm, or 1 where it is zero.
 fn scale(n: usize, store: &[f64], diag: &mut [f64]) {
     let from = wrapping_add_usize(product(n, n), n);
-    let mut i: usize = 0;
-    while i < diag.len() {
-        diag[i] = entry_of(at(store, wrapping_add_usize(from, i)));
-        i += 1;
+    for (i, d) in diag.iter_mut().enumerate() {
+        *d = entry_of(at(store, wrapping_add_usize(from, i)));
     }
 }
 
 fn multiply(v: &mut [f64], diag: &[f64]) {
-    let mut i: usize = 0;
-    while i < v.len() {
-        v[i] = v[i] * at(diag, i);
-        i += 1;
+    for (i, x) in v.iter_mut().enumerate() {
+        *x = *x * at(diag, i);
     }
 }
 
@@ -66,8 +60,7 @@ fn multiply(v: &mut [f64], diag: &[f64]) {
 fn radius_of(st: State, store: &mut [f64], order: &[usize], diag: &[f64], step: &mut [f64]) -> f64 {
     calls::least_squares::solve_with_zero_diagonal(st, store, order, step);
     multiply(step, diag);
-    let s = leaves::norm::enorm(step);
-    s.value * 0.1
+    leaves::norm::enorm(step).map_or(0.0, |s| s.value * 0.1)
 }
 
 fn seek(
@@ -81,41 +74,17 @@ fn seek(
     let told = calls::trust_region::determine_lambda_and_parameter_update(
         st, store, order, diag, radius, 0.0, step,
     );
-    let answer = told.answer;
-    match answer {
-        Found::Answer(a, _) => a.lambda + at(step, 0),
-        Found::Refused(_) => 0.0,
-    }
-}
-
-fn measure_of(r: Gradient) -> f64 {
-    match r {
-        Gradient::Measure(x) => x,
-        Gradient::Refused(_) => 0.0,
-    }
-}
-
-fn one_if(yes: bool) -> f64 {
-    if yes { 1.0 } else { 0.0 }
-}
-
-fn truth_of(r: Truth) -> f64 {
-    match r {
-        Truth::Is(yes) => one_if(yes),
-        Truth::Refused(_) => 0.0,
-    }
+    told.answer.map_or(0.0, |(a, _)| a.lambda + at(step, 0))
 }
 
 // The gradient; or whether it is above zero, which is 1 for yes. A refusal is 0.
 fn asked(mode: usize, st: State, store: &mut [f64], order: &[usize]) -> f64 {
     if mode == 5 {
         let g = calls::measure::max_a_t_b_scaled(st, store, order, 1.0);
-        let measure = g.answer;
-        return measure_of(measure);
+        return g.answer.unwrap_or(0.0);
     }
     let t = calls::above::above_limit(st, store, order, 1.0, 0.0);
-    let answer = t.answer;
-    truth_of(answer)
+    if t.answer.unwrap_or(false) { 1.0 } else { 0.0 }
 }
 
 // What comes after the factoring.
@@ -185,20 +154,19 @@ fn one(
     let seed = fill(residuals, fill(jacobian, y.seed));
     if t.mode == 0 {
         return Tally {
-            seed: seed,
+            seed,
             sum: y.sum + at(jacobian, 0),
         };
     }
     let x = factored(t, jacobian, residuals, store, order, bench, diag, step);
     Tally {
-        seed: seed,
+        seed,
         sum: y.sum + x,
     }
 }
 
 fn in_rooms(
     t: Task,
-    calls: usize,
     y: Tally,
     jacobian: &mut [f64],
     residuals: &mut [f64],
@@ -209,29 +177,27 @@ fn in_rooms(
     step: &mut [f64],
 ) -> f64 {
     let mut z = y;
-    let mut c: usize = 0;
-    while c < calls {
+    for _ in 0..t.count {
         z = one(t, z, jacobian, residuals, store, order, bench, diag, step);
-        c += 1;
     }
     z.sum
 }
 
-pub(crate) fn all(t: Task, calls: usize, y: Tally) -> f64 {
-    let mut jacobian = room::jacobian();
-    let mut residuals = room::residuals();
-    let mut store = room::store();
-    let mut order = room::order();
-    let mut bench = room::bench();
-    let mut diag = room::vector();
-    let mut step = room::vector();
-    let a = doubles_within(&jacobian, product(t.m, t.drawn));
-    let b = doubles_within(&residuals, t.m);
-    let c = doubles_within(&diag, t.n);
-    let d = doubles_within(&step, t.n);
+// In rooms for the largest problem: 128 rows, 16 columns.
+pub(crate) fn all(t: Task, y: Tally) -> f64 {
+    let mut jacobian: [f64; 2048] = filled(0.0);
+    let mut residuals: [f64; 128] = filled(0.0);
+    let mut store: [f64; 320] = filled(0.0);
+    let mut order: [usize; 16] = filled(0);
+    let mut bench: [f64; 2176] = filled(0.0);
+    let mut diag: [f64; 16] = filled(0.0);
+    let mut step: [f64; 16] = filled(0.0);
+    let a = within(&jacobian, product(t.m, t.drawn));
+    let b = within(&residuals, t.m);
+    let c = within(&diag, t.n);
+    let d = within(&step, t.n);
     in_rooms(
         t,
-        calls,
         y,
         &mut jacobian[..a],
         &mut residuals[..b],

@@ -2,7 +2,7 @@
 use mathlib.Core.Path.{◌≡◌, refl}
 use mathlib.Core.List.{[], ◌∷◌}
 use lib.Ieee.{nan, binary64, of_bits, to_bits}
-use Rattle.text.specs.declared.read.Read.TheVariants as read
+use Rattle.std.specs.Prelude.{Some, None}
 use Rattle.text.specs.Digit.{digit_of, glyph}
 use Rattle.text.specs.Read.{number_ends, stopped, turn, read_from}
 use Rattle.text.specs.Put.{digits, places_from, places_of, hex_of, decimal_of, stored}
@@ -24,20 +24,20 @@ unfolding decimal_of digits places_of places_from glyph
 most_decimal = refl
 
 -- `3c0` and a space, from place 7 on
-read_is : read_from 7 0 7 (51 ∷ 99 ∷ 48 ∷ 32 ∷ []) ≡ read.Is (record { value = 0x3C0; next = 10 })
+read_is : read_from 7 0 7 (51 ∷ 99 ∷ 48 ∷ 32 ∷ []) ≡ Some (record { value = 0x3C0; next = 10 })
 unfolding read_from turn digit_of stopped number_ends
 read_is = refl
 
 -- no digit, a letter that is none, and 17 digits
-read_none : read_from 7 0 7 (32 ∷ []) ≡ read.Refused
+read_none : read_from 7 0 7 (32 ∷ []) ≡ None
 unfolding read_from turn digit_of stopped number_ends
 read_none = refl
 
-read_letter : read_from 7 0 7 (51 ∷ 71 ∷ []) ≡ read.Refused
+read_letter : read_from 7 0 7 (51 ∷ 71 ∷ []) ≡ None
 unfolding read_from turn digit_of stopped number_ends
 read_letter = refl
 
-read_over : read_from 0 0 0 (49 ∷ 48 ∷ 48 ∷ 48 ∷ 48 ∷ 48 ∷ 48 ∷ 48 ∷ 48 ∷ 48 ∷ 48 ∷ 48 ∷ 48 ∷ 48 ∷ 48 ∷ 48 ∷ 48 ∷ []) ≡ read.Refused
+read_over : read_from 0 0 0 (49 ∷ 48 ∷ 48 ∷ 48 ∷ 48 ∷ 48 ∷ 48 ∷ 48 ∷ 48 ∷ 48 ∷ 48 ∷ 48 ∷ 48 ∷ 48 ∷ 48 ∷ 48 ∷ 48 ∷ []) ≡ None
 unfolding read_from turn digit_of stopped number_ends
 read_over = refl
 

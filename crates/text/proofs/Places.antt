@@ -4,11 +4,10 @@ use mathlib.Core.Path.{◌≡◌, refl, sym, ◌∙◌}
 use mathlib.Core.Logic.{◌≢◌}
 use mathlib.Core.List.{List, [], ◌∷◌, ◌++◌}
 use native.Mathlib.Omega.{arith}
-use native.Mathlib.Numerals.{add-one}
 use native.Mathlib.Nat.{mod-eq_of_lt, mod-lt, lt_of_lt_of_le}
 use borrow.Author.Tests.{lt-ltb, le-ltb, le-leb, lt-leb}
-use lib.ListN.{length, set, get_or, drop, length-append, drop_of_length-le}
-use lib.Seq.{sets, set_comm, drop-cons}
+use lib.ListN.{length, set, length-append}
+use lib.Seq.{sets, set_comm}
 use Rattle.text.specs.Digit.{glyph}
 use Rattle.text.specs.Put.{digits, places_from, places_of, stored}
 use Rattle.text.specs.inner.Spelling.{put_from}
@@ -26,9 +25,9 @@ places_go b n k rest h t e =
     let u : 20 - k ≡ suc (20 - (k + 1)) = omega arith in
     rw (le-ltb _ _ t, places_from) at (rw u at e)
 
-pub places-end : (b n k rest : ℕ) → 20 ≤ k → places_from (20 - k) b k rest ≡ places_of b n → k ≡ places_of b n
+pub places-end : (b n rest : ℕ) {k : ℕ} → k ≡ 20 → places_from (20 - k) b k rest ≡ places_of b n → 20 ≡ places_of b n
 unfolding places_from
-places-end b n k rest h e = let u : 20 - k ≡ 0 = omega arith in rw u at e
+places-end b n rest h e = rw h at e
 
 -- ---- `spell`
 pub put_turn : (b i n at : ℕ) (l r : List ℕ) (g : ℕ) → 0 < i → g ≡ glyph (n % b) → put_from b i n at l ≡ r → put_from b (i - 1) (n / b) at (set l (at + (i - 1)) g) ≡ r
@@ -59,15 +58,6 @@ pub put_is : (b k n at : ℕ) (l : List ℕ) → put_from b k n at l ≡ sets l 
 unfolding digits put_from
 put_is b zero n at l = refl
 put_is b (suc k) n at l = put_is b k (n / b) at (set l (at + k) (glyph (n % b))) ∙ sym (sets_snoc (digits b k (n / b)) l at (glyph (n % b)) ∙ rw digits-length)
-
--- ---- `copy`
-pub copy_turn : (src l r : List ℕ) (at i : ℕ) → i < length src → sets l (at + i) (drop i src) ≡ r → sets (set l (at + i) (get_or src i 0)) (at + (i + 1)) (drop (i + 1) src) ≡ r
-copy_turn src l r at i h e =
-    let u : at + (i + 1) ≡ suc (at + i) = omega arith in
-    rw (u, add-one) (rw (drop-cons src i 0 h) at e)
-
-pub copy-end : (src l r : List ℕ) (at i : ℕ) → length src ≤ i → sets l (at + i) (drop i src) ≡ r → l ≡ r
-copy-end src l r at i h e = rw (drop_of_length-le src {i = i} h) at e
 
 -- ---- what is answered
 pub fits : (bytes l : List ℕ) (at k : ℕ) → length bytes ≡ k → at + k ≤ length l → (at + k, sets l at bytes) ≡ stored bytes at l

@@ -7,8 +7,8 @@ use contract.Lifetimes.{Lfts}
 use borrow.Fn.World.{ArgsD}
 use borrow.Fn.Kinds.{ended_of}
 use denote.Triple.Clauses.{AtExit}
-use Rattle.text.specs.declared.digit.Digit.{Digit}
-use Rattle.text.specs.declared.read.Read.{Read}
+use Rattle.std.specs.Prelude.{Option}
+use Rattle.text.specs.declared.read.Found.{Found}
 use Rattle.text.specs.contracts.digit.value.{signature as value-signature}
 use Rattle.text.proofs.digit.value.Reads as value
 use Rattle.text.proofs.digit.value.Kinds as value-kinds
@@ -24,20 +24,20 @@ use Rattle.text.proofs.double.of_bits.Kinds as of-bits-kinds
 use Rattle.text.specs.contracts.double.bits_of.{signature as bits-of-signature}
 use Rattle.text.proofs.double.bits_of.Reads as bits_of
 use Rattle.text.proofs.double.bits_of.Kinds as bits-of-kinds
-use Rattle.text.specs.contracts.put.word.{signature as word-signature}
-use Rattle.text.proofs.put.word.Reads as word
-use Rattle.text.proofs.put.word.Kinds as word-kinds
-use Rattle.text.specs.contracts.put.hex.{signature as hex-signature}
-use Rattle.text.proofs.put.hex.Reads as hex
-use Rattle.text.proofs.put.hex.Kinds as hex-kinds
-use Rattle.text.specs.contracts.put.decimal.{signature as decimal-signature}
-use Rattle.text.proofs.put.decimal.Reads as decimal
-use Rattle.text.proofs.put.decimal.Kinds as decimal-kinds
-use Rattle.text.specs.contracts.put.bytes.{signature as bytes-signature}
-use Rattle.text.proofs.put.bytes.Reads as bytes
-use Rattle.text.proofs.put.bytes.Kinds as bytes-kinds
+use Rattle.text.specs.contracts.put.Page.word.{signature as word-signature}
+use Rattle.text.proofs.put.Page.word.Reads as word
+use Rattle.text.proofs.put.Page.word.Kinds as word-kinds
+use Rattle.text.specs.contracts.put.Page.hex.{signature as hex-signature}
+use Rattle.text.proofs.put.Page.hex.Reads as hex
+use Rattle.text.proofs.put.Page.hex.Kinds as hex-kinds
+use Rattle.text.specs.contracts.put.Page.decimal.{signature as decimal-signature}
+use Rattle.text.proofs.put.Page.decimal.Reads as decimal
+use Rattle.text.proofs.put.Page.decimal.Kinds as decimal-kinds
+use Rattle.text.specs.contracts.put.Page.bytes.{signature as bytes-signature}
+use Rattle.text.proofs.put.Page.bytes.Reads as bytes
+use Rattle.text.proofs.put.Page.bytes.Kinds as bytes-kinds
 
-pub value-one_outcome : (κs : Lfts 0) (a : ArgsD value-signature κs) (r₁ r₂ : Digit) (s₁ s₂ : AtExit (ended_of 0 value-kinds.ps value-kinds.r) κs) → value.Post κs a r₁ s₁ → value.Post κs a r₂ s₂
+pub value-one_outcome : (κs : Lfts 0) (a : ArgsD value-signature κs) (r₁ r₂ : Option ℕ) (s₁ s₂ : AtExit (ended_of 0 value-kinds.ps value-kinds.r) κs) → value.Post κs a r₁ s₁ → value.Post κs a r₂ s₂
     → r₁ ≡ r₂
 value-one_outcome κs a r₁ r₂ s₁ s₂ p q = p ∙ sym q
 
@@ -45,7 +45,7 @@ pub capital-one_outcome : (κs : Lfts 0) (a : ArgsD capital-signature κs) (r₁
     → r₁ ≡ r₂
 capital-one_outcome κs a r₁ r₂ s₁ s₂ p q = p ∙ sym q
 
-pub number-one_outcome : (κs : Lfts 1) (a : ArgsD number-signature κs) (r₁ r₂ : Read) (s₁ s₂ : AtExit (ended_of 1 number-kinds.ps number-kinds.r) κs) → number.Post κs a r₁ s₁ → number.Post κs a r₂ s₂
+pub number-one_outcome : (κs : Lfts 1) (a : ArgsD number-signature κs) (r₁ r₂ : Option Found) (s₁ s₂ : AtExit (ended_of 1 number-kinds.ps number-kinds.r) κs) → number.Post κs a r₁ s₁ → number.Post κs a r₂ s₂
     → r₁ ≡ r₂
 number-one_outcome κs a r₁ r₂ s₁ s₂ p q = p ∙ sym q
 
@@ -57,18 +57,18 @@ pub bits_of-one_outcome : (κs : Lfts 0) (a : ArgsD bits-of-signature κs) (r₁
     → r₁ ≡ r₂
 bits_of-one_outcome κs a r₁ r₂ s₁ s₂ p q = p ∙ sym q
 
-pub word-one_outcome : (κs : Lfts 1) (a : ArgsD word-signature κs) (r₁ r₂ : ℕ) (s₁ s₂ : AtExit (ended_of 1 word-kinds.ps word-kinds.r) κs) → word.Post κs a r₁ s₁ → word.Post κs a r₂ s₂
-    → (r₁ ≡ r₂) × (s₁.1.0.now ≡ s₂.1.0.now)
-word-one_outcome κs a r₁ r₂ s₁ s₂ p q = let e = p ∙ sym q in (ap (λ (x : ℕ × List ℕ). x.0) e, ap (λ (x : ℕ × List ℕ). x.1) e)
+pub word-one_outcome : (κs : Lfts 2) (a : ArgsD word-signature κs) (r₁ r₂ : Unit) (s₁ s₂ : AtExit (ended_of 2 word-kinds.ps word-kinds.r) κs) → word.Post κs a r₁ s₁ → word.Post κs a r₂ s₂
+    → (s₁.0.now.at ≡ s₂.0.now.at) × (s₁.0.now.out.now ≡ s₂.0.now.out.now)
+word-one_outcome κs a r₁ r₂ s₁ s₂ p q = let e = p.0 ∙ sym q.0 in (ap (λ (x : ℕ × List ℕ). x.0) e, ap (λ (x : ℕ × List ℕ). x.1) e)
 
-pub hex-one_outcome : (κs : Lfts 1) (a : ArgsD hex-signature κs) (r₁ r₂ : ℕ) (s₁ s₂ : AtExit (ended_of 1 hex-kinds.ps hex-kinds.r) κs) → hex.Post κs a r₁ s₁ → hex.Post κs a r₂ s₂
-    → (r₁ ≡ r₂) × (s₁.1.0.now ≡ s₂.1.0.now)
-hex-one_outcome κs a r₁ r₂ s₁ s₂ p q = let e = p ∙ sym q in (ap (λ (x : ℕ × List ℕ). x.0) e, ap (λ (x : ℕ × List ℕ). x.1) e)
+pub hex-one_outcome : (κs : Lfts 2) (a : ArgsD hex-signature κs) (r₁ r₂ : Unit) (s₁ s₂ : AtExit (ended_of 2 hex-kinds.ps hex-kinds.r) κs) → hex.Post κs a r₁ s₁ → hex.Post κs a r₂ s₂
+    → (s₁.0.now.at ≡ s₂.0.now.at) × (s₁.0.now.out.now ≡ s₂.0.now.out.now)
+hex-one_outcome κs a r₁ r₂ s₁ s₂ p q = let e = p.0 ∙ sym q.0 in (ap (λ (x : ℕ × List ℕ). x.0) e, ap (λ (x : ℕ × List ℕ). x.1) e)
 
-pub decimal-one_outcome : (κs : Lfts 1) (a : ArgsD decimal-signature κs) (r₁ r₂ : ℕ) (s₁ s₂ : AtExit (ended_of 1 decimal-kinds.ps decimal-kinds.r) κs) → decimal.Post κs a r₁ s₁ → decimal.Post κs a r₂ s₂
-    → (r₁ ≡ r₂) × (s₁.1.0.now ≡ s₂.1.0.now)
-decimal-one_outcome κs a r₁ r₂ s₁ s₂ p q = let e = p ∙ sym q in (ap (λ (x : ℕ × List ℕ). x.0) e, ap (λ (x : ℕ × List ℕ). x.1) e)
+pub decimal-one_outcome : (κs : Lfts 2) (a : ArgsD decimal-signature κs) (r₁ r₂ : Unit) (s₁ s₂ : AtExit (ended_of 2 decimal-kinds.ps decimal-kinds.r) κs) → decimal.Post κs a r₁ s₁ → decimal.Post κs a r₂ s₂
+    → (s₁.0.now.at ≡ s₂.0.now.at) × (s₁.0.now.out.now ≡ s₂.0.now.out.now)
+decimal-one_outcome κs a r₁ r₂ s₁ s₂ p q = let e = p.0 ∙ sym q.0 in (ap (λ (x : ℕ × List ℕ). x.0) e, ap (λ (x : ℕ × List ℕ). x.1) e)
 
-pub bytes-one_outcome : (κs : Lfts 2) (a : ArgsD bytes-signature κs) (r₁ r₂ : ℕ) (s₁ s₂ : AtExit (ended_of 2 bytes-kinds.ps bytes-kinds.r) κs) → bytes.Post κs a r₁ s₁ → bytes.Post κs a r₂ s₂
-    → (r₁ ≡ r₂) × (s₁.1.0.now ≡ s₂.1.0.now)
-bytes-one_outcome κs a r₁ r₂ s₁ s₂ p q = let e = p ∙ sym q in (ap (λ (x : ℕ × List ℕ). x.0) e, ap (λ (x : ℕ × List ℕ). x.1) e)
+pub bytes-one_outcome : (κs : Lfts 3) (a : ArgsD bytes-signature κs) (r₁ r₂ : Unit) (s₁ s₂ : AtExit (ended_of 3 bytes-kinds.ps bytes-kinds.r) κs) → bytes.Post κs a r₁ s₁ → bytes.Post κs a r₂ s₂
+    → (s₁.0.now.at ≡ s₂.0.now.at) × (s₁.0.now.out.now ≡ s₂.0.now.out.now)
+bytes-one_outcome κs a r₁ r₂ s₁ s₂ p q = let e = p.0 ∙ sym q.0 in (ap (λ (x : ℕ × List ℕ). x.0) e, ap (λ (x : ℕ × List ℕ). x.1) e)

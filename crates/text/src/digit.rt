@@ -1,49 +1,39 @@
 // One hex digit.
-ghost use Rattle.std.specs.Prelude.{◌≡◌, ◌%◌, ◌<◌};
+ghost use Rattle.std.specs.Prelude.{◌≡◌, ◌%◌};
 ghost use Rattle.text.specs.Digit.{digit_of, glyph};
-
-#[derive(Clone, Copy)]
-pub enum Digit {
-    Is(u64),
-    Not,
-}
-
-fn wide(b: u8) -> u64
-    ensures { (result ≡ b) × (result < 256) }
-{
-    b as u64
-}
 
 // The value of a hex digit, capital or small.
 //
 // b: any byte.
-// Refused where it is no digit.
-pub fn value(b: u8) -> Digit
+// None where it is no digit.
+#[tactic(auto, unfolding(crate::specs::Digit::digit_of))]
+pub fn value(b: u8) -> Option<u64>
     ensures { result ≡ digit_of b }
 {
-    let w = wide(b);
+    let w = b as u64;
     if w < 48 {
-        return Digit::Not;
+        return None;
     }
     if w < 58 {
-        return Digit::Is(w - 48);
+        return Some(w - 48);
     }
     if w < 65 {
-        return Digit::Not;
+        return None;
     }
     if w < 71 {
-        return Digit::Is(w - 55);
+        return Some(w - 55);
     }
     if w < 97 {
-        return Digit::Not;
+        return None;
     }
     if w < 103 {
-        return Digit::Is(w - 87);
+        return Some(w - 87);
     }
-    Digit::Not
+    None
 }
 
 // The capital hex digit of v's last four bits, as a byte. Refuses nothing.
+#[tactic(auto, unfolding(crate::specs::Digit::glyph))]
 pub fn capital(v: u64) -> u8
     ensures { result ≡ glyph (v % 16) }
 {

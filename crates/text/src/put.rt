@@ -1,5 +1,4 @@
-// Text into a lent buffer from a place on. Each public function answers the place after what it wrote; where that does not fit, it writes
-// nothing and answers the place that it was given.
+// Text into a lent buffer from a place on.
 ghost use Rattle.std.specs.Prelude.{◌≡◌, ◌+◌, ◌<◌, ◌≤◌, length};
 ghost use Rattle.std.proofs.lemmas.List.Edits.{sets};
 ghost use Rattle.text.specs.Put.{digits, places_of, hex_of, decimal_of, stored};
@@ -13,15 +12,13 @@ fn places(n: u64, base: u64) -> usize
     ensures { (result ≡ places_of base n) × (result ≤ 20) }
 {
     let mut rest = n;
-    let mut k: usize = 1;
-    while k < 20 {
+    for k in 1..20 {
         if rest < base {
             return k;
         }
         rest = rest / base;
-        k += 1;
     }
-    k
+    20
 }
 
 // The last k digits of n in base, from the last to the first.
@@ -31,73 +28,79 @@ fn spell(n: u64, base: u64, k: usize, out: &mut [u8], at: usize)
     ensures { out.new ≡ put_from base k n at out.old }
 {
     let mut rest = n;
-    let mut i = k;
-    while i > 0 {
-        i -= 1;
+    for i in (0..k).rev() {
         out[at + i] = capital(rest % base);
         rest = rest / base;
     }
 }
 
-fn put_digits(n: u64, base: u64, k: usize, out: &mut [u8], at: usize) -> usize
-    requires base_nonzero { (0 < base) × (base ≤ 16) }
-    requires k_bound { k ≤ 20 }
-    ensures { (result, out.new) ≡ stored (digits base k n) at out.old }
-{
-    if out.len() < k {
-        return at;
-    }
-    if out.len() - k < at {
-        return at;
-    }
-    spell(n, base, k, out, at);
-    at + k
-}
-
-// n as 16 capital hex digits, into out from `at` on; nothing where they do not fit. Answers the place after them, else `at`.
-pub fn word(n: u64, out: &mut [u8], at: usize) -> usize
-    ensures { (result, out.new) ≡ stored (digits 16 16 n) at out.old }
-{
-    put_digits(n, 16, 16, out, at)
-}
-
-// n as capital hex digits with no leading zeros, into out from `at` on; nothing where they do not fit. Answers the place after them, else `at`.
-pub fn hex(n: u64, out: &mut [u8], at: usize) -> usize
-    ensures { (result, out.new) ≡ stored (hex_of n) at out.old }
-{
-    let k = places(n, 16);
-    put_digits(n, 16, k, out, at)
-}
-
-// n as decimal digits with no leading zeros, into out from `at` on; nothing where they do not fit. Answers the place after them, else `at`.
-pub fn decimal(n: u64, out: &mut [u8], at: usize) -> usize
-    ensures { (result, out.new) ≡ stored (decimal_of n) at out.old }
-{
-    let k = places(n, 10);
-    put_digits(n, 10, k, out, at)
+// A lent buffer that is written from a place on. What does not fit is not written, and the place stays.
+#[derive(Drop)]
+pub struct Page<'a> {
+    pub out: &'a mut [u8],
+    pub at: usize,
 }
 
 fn copy(src: &[u8], out: &mut [u8], at: usize)
     requires { at + length src.now ≤ length out.old }
     ensures { out.new ≡ sets out.old at src.now }
 {
-    let mut i = 0;
-    while i < src.len() {
-        out[at + i] = src[i];
-        i += 1;
-    }
+    out[at..at + src.len()].copy_from_slice(src);
 }
 
-// src into out from `at` on; nothing where it does not fit. Answers the place after it, else `at`.
-pub fn bytes(src: &[u8], out: &mut [u8], at: usize) -> usize
-    ensures { (result, out.new) ≡ stored src.now at out.old }
-{
-    if out.len() < src.len() {
-        return at;
+impl Page<'_> {
+    fn put_digits(&mut self, n: u64, base: u64, k: usize)
+        requires base_nonzero { (0 < base) × (base ≤ 16) }
+        requires k_bound { k ≤ 20 }
+        ensures wrote { (self.new.at, self.new.out.now) ≡ stored (digits base k n) self.old.at self.old.out.now }
+        ensures same_out { self.new.out.ghost_name ≡ self.old.out.ghost_name }
+    {
+        if self.out.len() < k {
+            return;
+        }
+        if self.out.len() - k < self.at {
+            return;
+        }
+        spell(n, base, k, self.out, self.at);
+        self.at += k;
     }
-    if out.len() - src.len() < at {
-        return at;
+
+    // n as 16 capital hex digits.
+    pub fn word(&mut self, n: u64)
+        ensures wrote { (self.new.at, self.new.out.now) ≡ stored (digits 16 16 n) self.old.at self.old.out.now }
+        ensures same_out { self.new.out.ghost_name ≡ self.old.out.ghost_name }
+    {
+        self.put_digits(n, 16, 16);
     }
-    copy(src, out, at);
-    at + src.len()
+
+    // n as capital hex digits with no leading zeros.
+    pub fn hex(&mut self, n: u64)
+        ensures wrote { (self.new.at, self.new.out.now) ≡ stored (hex_of n) self.old.at self.old.out.now }
+        ensures same_out { self.new.out.ghost_name ≡ self.old.out.ghost_name }
+    {
+        self.put_digits(n, 16, places(n, 16));
+    }
+
+    // n as decimal digits with no leading zeros.
+    pub fn decimal(&mut self, n: u64)
+        ensures wrote { (self.new.at, self.new.out.now) ≡ stored (decimal_of n) self.old.at self.old.out.now }
+        ensures same_out { self.new.out.ghost_name ≡ self.old.out.ghost_name }
+    {
+        self.put_digits(n, 10, places(n, 10));
+    }
+
+    // src as it is.
+    pub fn bytes(&mut self, src: &[u8])
+        ensures wrote { (self.new.at, self.new.out.now) ≡ stored src.now self.old.at self.old.out.now }
+        ensures same_out { self.new.out.ghost_name ≡ self.old.out.ghost_name }
+    {
+        if self.out.len() < src.len() {
+            return;
+        }
+        if self.out.len() - src.len() < self.at {
+            return;
+        }
+        copy(src, self.out, self.at);
+        self.at += src.len();
+    }
 }

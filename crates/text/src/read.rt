@@ -2,7 +2,7 @@
 ghost use Rattle.std.specs.Prelude.{◌≡◌, ◌*◌, ◌<◌, drop};
 ghost use Rattle.text.specs.Read.{number_ends, stopped, read_from};
 
-use crate::digit::{Digit, value};
+use crate::digit::value;
 
 // A number, and the place of what stands after its last digit.
 #[derive(Clone, Copy)]
@@ -11,24 +11,20 @@ pub struct Found {
     pub next: usize,
 }
 
-#[derive(Clone, Copy)]
-pub enum Read {
-    Is(Found),
-    Refused,
-}
-
-// What a number that began at `at` is when it ends at i: refused without a digit.
-fn end(at: usize, v: u64, i: usize) -> Read
+// What a number that began at `at` is when it ends at i: none without a digit.
+#[tactic(auto, unfolding(crate::specs::Read::number_ends))]
+fn end(at: usize, v: u64, i: usize) -> Option<Found>
     ensures { result ≡ number_ends at v i }
 {
     if i == at {
-        return Read::Refused;
+        return None;
     }
-    Read::Is(Found { value: v, next: i })
+    Some(Found { value: v, next: i })
 }
 
-// The same at a byte that is no digit: refused unless it is a space or the end of a line.
-fn stop(at: usize, v: u64, i: usize, b: u8) -> Read
+// The same at a byte that is no digit: none unless it is a space or the end of a line.
+#[tactic(auto, unfolding(crate::specs::Read::stopped))]
+fn stop(at: usize, v: u64, i: usize, b: u8) -> Option<Found>
     ensures { result ≡ stopped at v i b }
 {
     if b == b' ' {
@@ -37,27 +33,24 @@ fn stop(at: usize, v: u64, i: usize, b: u8) -> Read
     if b == b'\n' {
         return end(at, v, i);
     }
-    Read::Refused
+    None
 }
 
-// The number whose digits stand from `at` up to the next space, end of line or end of the bytes. Refused where it has no
+// The number whose digits stand from `at` up to the next space, end of line or end of the bytes. None where it has no
 // digit, or does not fit 64 bits.
-pub fn number(s: &[u8], at: usize) -> Read
+pub fn number(s: &[u8], at: usize) -> Option<Found>
     ensures { result ≡ read_from at 0 at (drop at s.now) }
 {
     let mut v: u64 = 0;
-    let mut i = at;
-    while i < s.len() {
+    for i in at..s.len() {
         let b = s[i];
-        let d = value(b);
-        let Digit::Is(k) = d else {
+        let Some(k) = value(b) else {
             return stop(at, v, i, b);
         };
         if v >= 0x1000_0000_0000_0000 {
-            return Read::Refused;
+            return None;
         }
         v = v * 16 + k;
-        i += 1;
     }
-    end(at, v, i)
+    end(at, v, at.max(s.len()))
 }

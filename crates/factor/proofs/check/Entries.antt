@@ -7,19 +7,12 @@ use native.Mathlib.Numerals.{add-one}
 use native.Mathlib.Omega.{arith}
 use lib.Dec.{eqb}
 use lib.ListN.{length, get_or, take, drop, set, replicate, length-take, drop_of_length-le}
-use lib.Seq.{drop-cons, get_or-take, length-take-le, get_or-set_same, get_or-set_other}
+use lib.Seq.{drop-cons, get_or-set_same, get_or-set_other}
 use borrow.Author.Tests.{lt-ltb, le-ltb, eqb-true, eqb-false}
 use Rattle.factor.specs.Tests.{absent, distinct_below, is_permutation}
 
--- what is left at place i, and at the end
-module _ {A : Type 0} (v : List A) (n i : ℕ) where
-  left-cons : (d : A) → i < n → n ≤ length v → drop i (take n v) ≡ get_or v i d ∷ drop (i + 1) (take n v)
-  left-cons d h l =
-      let e : length (take n v) ≡ n = length-take-le n v l in
-      rw (add-one, drop-cons (take n v) i d (omega arith), get_or-take n v i d h)
-
-  left_none : n ≤ i → drop i (take n v) ≡ []
-  left_none h = drop_of_length-le (take n v) {i = i} (omega (arith, length-take n v))
+left_none : {A : Type 0} (v : List A) (n i : ℕ) → n ≤ i → drop i (take n v) ≡ []
+left_none v n i h = drop_of_length-le (take n v) {i = i} (omega (arith, length-take n v))
 
 -- ---- 4: each entry below n, and none twice, with a mark at each number that was met
 unfoldable pub unmet : List Bool → List ℕ → Bool
@@ -57,30 +50,30 @@ grouped : (d a u : Bool) → (d && (a && u)) ≡ ((a && d) && u)
 grouped true a u = rw (and-true a)
 grouped false a u = rw (and-false a)
 
--- what is left to test of the list from place k on
-abbrev pub to_meet : ℕ → List ℕ → ℕ → List Bool → Bool
-to_meet n order k met = distinct_below n (drop k (take n order)) && unmet met (drop k (take n order))
+-- what is left to test, of the places that are left
+abbrev pub to_meet : ℕ → List ℕ → List Bool → Bool
+to_meet n left met = distinct_below n left && unmet met left
 
-pub order-start : (n : ℕ) (order : List ℕ) (met : List Bool) → met ≡ replicate 16 false → to_meet n order 0 met ≡ is_permutation n order
+pub order-start : (n : ℕ) (order : List ℕ) (met : List Bool) → met ≡ replicate 16 false → to_meet n (take n order) met ≡ is_permutation n order
 order-start n order met e = rw (e, none_met 16 (take n order)) (and-true (is_permutation n order))
 
-module _ (order : List ℕ) (n k : ℕ) (met : List Bool) (h : k < n) (l : n ≤ length order) where
-  pub order_high : n ≤ get_or order k 0 → to_meet n order k met ≡ false
+module _ (os : List ℕ) (n k : ℕ) (met : List Bool) (h : k < length os) where
+  pub order_high : n ≤ get_or os k 0 → to_meet n (drop k os) met ≡ false
   unfolding distinct_below
-  order_high e = rw (left-cons order n k 0 h l, le-ltb (get_or order k 0) n e)
+  order_high e = rw (drop-cons os k 0 h, le-ltb (get_or os k 0) n e)
 
-  pub order_twice : get_or met (get_or order k 0) false ≡ true → to_meet n order k met ≡ false
+  pub order_twice : get_or met (get_or os k 0) false ≡ true → to_meet n (drop k os) met ≡ false
   unfolding unmet
-  order_twice e = rw (left-cons order n k 0 h l, e) (and-false (distinct_below n (get_or order k 0 ∷ drop (k + 1) (take n order))))
+  order_twice e = rw (drop-cons os k 0 h, e) (and-false (distinct_below n (get_or os k 0 ∷ drop (suc k) os)))
 
-  pub order_turn : get_or order k 0 < n → get_or order k 0 < length met → get_or met (get_or order k 0) false ≡ false
-      → to_meet n order (k + 1) (set met (get_or order k 0) true) ≡ to_meet n order k met
+  pub order_turn : get_or os k 0 < n → get_or os k 0 < length met → get_or met (get_or os k 0) false ≡ false
+      → to_meet n (drop (k + 1) os) (set met (get_or os k 0) true) ≡ to_meet n (drop k os) met
   unfolding distinct_below unmet
   order_turn b r e =
-      let rest = drop (k + 1) (take n order) in
-      rw (left-cons order n k 0 h l, lt-ltb (get_or order k 0) n b, e, unmet_set met (get_or order k 0) rest r)
-      (grouped (distinct_below n rest) (absent (get_or order k 0) rest) (unmet met rest))
+      let rest = drop (suc k) os in
+      rw (add-one, drop-cons os k 0 h, lt-ltb (get_or os k 0) n b, e, unmet_set met (get_or os k 0) rest r)
+      (grouped (distinct_below n rest) (absent (get_or os k 0) rest) (unmet met rest))
 
-pub order-end : (order : List ℕ) (n k : ℕ) (met : List Bool) → n ≤ k → to_meet n order k met ≡ true
+pub order-end : (os : List ℕ) (n k : ℕ) (met : List Bool) → length os ≤ k → to_meet n (drop k os) met ≡ true
 unfolding distinct_below unmet
-order-end order n k met h = rw (left_none order n k h)
+order-end os n k met h = rw (drop_of_length-le os {i = k} h)

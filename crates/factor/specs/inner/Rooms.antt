@@ -1,6 +1,8 @@
 -- What the inner functions need of a store, and of a room. No public contract cites it.
-use Rattle.std.specs.Prelude.{ℕ, suc, ◌+◌, ◌-◌, ◌*◌, ◌≤◌, ◌<◌, ◌≡◌, cond, List, [], eqb, length, get_or, Float}
+use Rattle.std.specs.Prelude.{ℕ, suc, ◌+◌, ◌-◌, ◌*◌, ◌≤◌, ◌<◌, ◌≡◌, Bool, true, false, cond, List, [], eqb, length, get_or, Float}
 use Rattle.factor.specs.Room.{Room}
+use Rattle.factor.specs.declared.state.Held.{Held}
+use Rattle.factor.specs.declared.state.Held.TheVariants as held
 
 -- the room with other numbers in part k of the four that follow the square
 unfoldable pub with_part : ℕ → List Float → Room → Room
@@ -18,6 +20,11 @@ with_part k y r = record {
 pub record Sized (n : ℕ) (s : List Float) : Type 0 where
   pub small : n ≤ 16
   pub fits : n * n + 4 * n ≤ length s
+
+-- whose solve's it is that is held: a damped one leaves L below the diagonal, a zero one R
+abbrev pub held_as : Bool → Held
+held_as true = held.Damped
+held_as false = held.Zero
 
 -- a room that a store of enough numbers can hold: the one that is loaded from it, and what the calls make of that
 pub record Shaped (n : ℕ) (r : Room) : Type 0 where

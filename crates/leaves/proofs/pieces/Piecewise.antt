@@ -1,11 +1,11 @@
 -- A list that is written piece by piece: before place a it is new, from there on as it was. Assumes nothing.
-use mathlib.Core.Path.{◌≡◌, sym, ap, ◌∙◌}
+use mathlib.Core.Path.{◌≡◌, ap, ◌∙◌}
 use mathlib.Core.List.{List, [], ◌∷◌, ◌++◌, append_assoc, append-nil}
 use Prim.Native.Nat.{ℕ, zero, suc, ◌+◌, ◌-◌, ◌≤◌}
 use native.Mathlib.Nat.{zero-add, suc-add}
 use native.Mathlib.Omega.{arith}
 use lib.ListN.{length, take, drop, replicate, length-replicate, replicate-append-replicate, drop_of_length-le}
-use lib.Seq.{length-take-le, take_at, drop_at, take-nil, take_all}
+use lib.Seq.{length-take-le, take_at, take-nil}
 use Rattle.leaves.proofs.Splices.{splice, drop_front}
 
 module _ {A : Type 0} where
@@ -14,22 +14,20 @@ module _ {A : Type 0} where
   take_more (suc a) k [] = rw suc-add (take-nil k)
   take_more (suc a) k (x ∷ z) = rw suc-add (ap (λ (l : List A). x ∷ l) (take_more a k z))
 
-  piece_by : (a k : ℕ) (z x : List A) → a ≤ length z → splice a (a + k) (take k (drop a z)) (take a z ++ drop a x) ≡ take (a + k) z ++ drop (a + k) x
-  piece_by a k z x h =
-      let l = length-take-le a z h in
-      rw (take_at (take a z) (drop a x) a l, drop_front a k (take a z) x l, ← append_assoc (take a z) (take k (drop a z)) (drop (a + k) x), take_more a k z)
+  -- p is a new piece of k numbers after h, which has a
+  join : (a k : ℕ) (h p x : List A) {y y' : List A} → length h ≡ a → y ≡ h ++ drop a x → y' ≡ splice a (a + k) p y → y' ≡ (h ++ p) ++ drop (a + k) x
+  join a k h p x l e q = q ∙ rw (e, take_at h (drop a x) a l, drop_front a k h x l, ← append_assoc h p (drop (a + k) x))
 
-  pub piece_turn : (a e : ℕ) (z x : List A) {y y' : List A} → a ≤ e → e ≤ length z → y ≡ take a z ++ drop a x → y' ≡ splice a e (take (e - a) (drop a z)) y → y' ≡ take e z ++ drop e x
-  piece_turn a e z x h k p q =
-      let s : e ≡ a + (e - a) = omega arith in
-      q ∙ ap (λ (l : List A). splice a e (take (e - a) (drop a z)) l) p ∙ ap (λ (i : ℕ). splice a i (take (e - a) (drop a z)) (take a z ++ drop a x)) s ∙ piece_by a (e - a) z x (omega arith) ∙ ap (λ (i : ℕ). take i z ++ drop i x) (sym s)
-
-  pub pieces_done : (a : ℕ) (z x : List A) {y : List A} → length z ≤ a → length x ≤ a → y ≡ take a z ++ drop a x → y ≡ z
-  pieces_done a z x h k p = p ∙ rw (take_all a z h, drop_of_length-le x k) (append-nil z)
+  pub piece_turn : (a k : ℕ) (z x : List A) {y y' : List A} → a + k ≤ length z → y ≡ take a z ++ drop a x → y' ≡ splice a (a + k) (take (a + k - a) (drop a z)) y → y' ≡ take (a + k) z ++ drop (a + k) x
+  piece_turn a k z x h e q =
+      let d : a + k - a ≡ k = omega arith in
+      rw (← take_more a k z) (join a k (take a z) (take k (drop a z)) x (length-take-le a z (omega arith)) e (rw d at q))
 
   -- a piece of one value over and over
-  pub same_piece : (a n k : ℕ) (v : A) → a + k ≤ n → replicate k v ≡ take k (drop a (replicate n v))
-  same_piece a n k v h =
-      let e : n ≡ a + (k + (n - (a + k))) = omega arith in
-      rw (e, ← replicate-append-replicate a (k + (n - (a + k))) v, drop_at (replicate a v) (replicate (k + (n - (a + k))) v) a (length-replicate a v), ← replicate-append-replicate k (n - (a + k)) v)
-      (sym (take_at (replicate k v) (replicate (n - (a + k)) v) k (length-replicate k v)))
+  pub same_turn : (a k : ℕ) (v : A) (x : List A) {y y' : List A} → y ≡ replicate a v ++ drop a x → y' ≡ splice a (a + k) (replicate (a + k - a) v) y → y' ≡ replicate (a + k) v ++ drop (a + k) x
+  same_turn a k v x e q =
+      let d : a + k - a ≡ k = omega arith in
+      rw (← replicate-append-replicate a k v) (join a k (replicate a v) (replicate k v) x (length-replicate a v) e (rw d at q))
+
+  pub same_done : (a : ℕ) (v : A) (x : List A) {y : List A} → length x ≡ a → y ≡ replicate a v ++ drop a x → y ≡ replicate (length x) v
+  same_done a v x h e = e ∙ rw (h, drop_of_length-le x {i = a} (omega arith)) (append-nil (replicate a v))

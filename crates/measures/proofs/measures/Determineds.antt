@@ -1,17 +1,17 @@
--- Determined, place by place: the count as the code goes, what holds of the places before it and at it, and that it is at most the rank that the
+-- Determined, place by place: the count as the code has it, what holds of the places before it and at it, and that it is at most the rank that the
 -- zero solve uses. Assumes nothing.
 use mathlib.Core.Path.{◌≡◌, refl, sym, ap, ◌∙◌}
 use mathlib.Core.Bool.{Bool, true, false, cond, true≢false}
 use mathlib.Core.List.{List, [], ◌∷◌}
 use Prim.Native.Nat.{ℕ, zero, suc, ◌+◌, ◌*◌, ◌<◌, ◌≤◌, max, zero-le, suc-le-suc}
 use native.Mathlib.Nat.{le_of_suc-le-suc}
-use native.Mathlib.Numerals.{add-one}
 use native.Mathlib.Omega.{arith}
 use lib.IntN.{ℤ, pos}
-use lib.ListN.{length, get_or, take, drop, drop_of_length-le}
-use lib.Seq.{drop-cons}
+use lib.ListN.{length, get_or, take}
 use lib.Ieee.{Float, nan, inf, fin, binary64, up, down, mul, lt, eq, of_int}
 use borrow.Author.Tests.{le-ltb}
+use Rattle.std.specs.List.{take_while}
+use Rattle.std.proofs.lemmas.List.Sums.{take_while-cons}
 use Rattle.leaves.specs.Number.{plus_zero, abs_of, epsmch}
 use Rattle.leaves.specs.Square.{diagonal}
 use Rattle.leaves.proofs.Normed.{abs_side, round_side, mul_side}
@@ -25,27 +25,12 @@ pub limit_by : (m n top : ℕ) (d : Float) {e a : Float} → top ≡ max m n →
 unfolding limit_of
 limit_by m n top d t e a = rw (t, e, a)
 
-leading-cons : (limit d : Float) (ds : List Float) (b : Bool) → lt limit (abs_of d) ≡ b → leading limit (d ∷ ds) ≡ cond b (d ∷ leading limit ds) []
+pub leading_is : (limit : Float) (ds : List Float) → take_while (λ d. lt limit (abs_of d)) ds ≡ leading limit ds
 unfolding leading
-leading-cons limit d ds b t = ap (λ (x : Bool). cond x (d ∷ leading limit ds) []) t
-
-module _ (limit : Float) (ds : List Float) (k : ℕ) (h : k < length ds) (d : Float) (e : d ≡ get_or ds k nan) where
-  from_here : drop k ds ≡ d ∷ drop (suc k) ds
-  from_here = drop-cons ds k nan h ∙ ap (λ (x : Float). x ∷ drop (suc k) ds) (sym e)
-
-  pub leading-stop : lt limit (abs_of d) ≡ false → k ≡ k + length (leading limit (drop k ds))
-  leading-stop t =
-      let q : length (leading limit (drop k ds)) ≡ 0 = ap (λ (l : List Float). length (leading limit l)) from_here ∙ ap length (leading-cons limit d (drop (suc k) ds) false t) in
-      omega arith
-
-  pub leading_go : lt limit (abs_of d) ≡ true → k + 1 + length (leading limit (drop (k + 1) ds)) ≡ k + length (leading limit (drop k ds))
-  leading_go t =
-      let q : length (leading limit (drop k ds)) ≡ suc (length (leading limit (drop (suc k) ds))) = ap (λ (l : List Float). length (leading limit l)) from_here ∙ ap length (leading-cons limit d (drop (suc k) ds) true t) in
-      rw add-one (omega arith)
-
-pub leading_end : (limit : Float) (ds : List Float) (k : ℕ) → length ds ≤ k → k ≡ k + length (leading limit (drop k ds))
-unfolding leading
-leading_end limit ds k h = let q : length (leading limit (drop k ds)) ≡ 0 = ap (λ (l : List Float). length (leading limit l)) (drop_of_length-le ds {i = k} h) in omega arith
+leading_is limit [] = refl
+leading_is limit (d ∷ ds) =
+    let p : Float → Bool = λ d. lt limit (abs_of d) in
+    take_while-cons p d ds ∙ ap (λ (l : List Float). cond (p d) (d ∷ l) []) (leading_is limit ds)
 
 -- ---- every place before the count is above the limit, and the place at the count is not
 here : (limit d : Float) (ds : List Float) (b : Bool) → lt limit (abs_of d) ≡ b

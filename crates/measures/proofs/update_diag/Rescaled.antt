@@ -8,7 +8,7 @@ use lib.Ieee.{Float}
 use borrow.Author.Tests.{ne_eqb}
 use Rattle.leaves.specs.Reply.{Reply, refused}
 use Rattle.factor.specs.Room.{load, lay, rested}
-use Rattle.leaves.specs.Tests.{first_of}
+use Rattle.leaves.specs.Tests.{Test, first_of}
 use Rattle.factor.specs.Tests.{room_tests, finite_test, finite_number, not_above}
 use Rattle.measures.specs.Rescale.{Scaled, first_tests, scaling_tests, rescaled, scaling_call}
 use Rattle.factor.specs.Outcome.{ended}
@@ -16,8 +16,25 @@ use Rattle.factor.specs.declared.state.State.{State}
 use Rattle.measures.specs.declared.scaling.Mode.{Mode}
 use Rattle.measures.specs.declared.scaling.Mode.TheVariants as mode
 use Rattle.factor.proofs.Passed.{Passed, room_passed}
-use Rattle.leaves.proofs.Refusals.{call-refused, call-worked, earlier_passed}
+use Rattle.leaves.proofs.Refusals.{call-refused, call-worked, stopped, went_to, earlier_passed}
 use Rattle.measures.specs.inner.Reads.{parameters_read}
+
+-- ---- the first call's tests: the room's, of the shorter of its two slices, and then three
+module _ (st : State) (store : ℕ) (diag x : List Float) (bound : Float) {j : ℕ} (l : j ≡ min (length diag) (length x)) where
+  abbrev rooms : List Test
+  rooms = room_tests st store (min (length diag) (length x))
+
+  abbrev start_tests : List Test
+  start_tests = finite_test st x ∷ finite_number bound ∷ (not_above bound, 7) ∷ []
+
+  shorter : {c : ℕ} → c ≡ first_of (room_tests st store j) → c ≡ first_of rooms
+  shorter e = e ∙ ap (λ (i : ℕ). first_of (room_tests st store i)) l
+
+  pub first_stopped : {c : ℕ} → c ≡ first_of (room_tests st store j) → (c ≡ 0 → ⊥) → c ≡ first_of (first_tests st store diag x bound)
+  first_stopped e h = sym (stopped rooms start_tests _ (shorter e) h)
+
+  pub first_went : {k : ℕ} → 0 ≡ first_of (room_tests st store j) → k ≡ first_of start_tests → k ≡ first_of (first_tests st store diag x bound)
+  first_went e h = went_to rooms start_tests refl (shorter e) refl h
 
 -- ---- each mode's tests
 module _ (st : State) (store : ℕ) (diag x : List Float) (bound : Float) {k : ℕ} {md : Mode} where

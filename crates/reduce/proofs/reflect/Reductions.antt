@@ -12,8 +12,8 @@ use Rattle.leaves.specs.Number.{is_negative, plus_zero}
 use Rattle.leaves.specs.Norm.{norm, either, ranges, ranges_of}
 use Rattle.leaves.specs.declared.norm.Ranges.{Ranges}
 use Rattle.leaves.proofs.Seen.{either_none, ranges_of_one}
-use Rattle.reduce.specs.Reduction.{reduction, reflect_from, shrunk, renewed, later, signed, remeasured, measured_later}
-use Rattle.reduce.specs.inner.Bench.{divided, renewed_at, remeasured_at, stale}
+use Rattle.reduce.specs.Reduction.{Reduction, reduction, reflect_from, shrunk, renewed, later, signed, remeasured, measured_later}
+use Rattle.reduce.specs.inner.Bench.{divided, renewing, measured_renewing, stale}
 
 pub divided-length : (t : Float) (c : List Float) → length (divided t c) ≡ length c
 divided-length t [] = refl
@@ -29,66 +29,70 @@ unfolding signed
 signed_is s c b h = rw (h, signed)
 
 -- ---- a partial norm renewed: the three outcomes
-module _ (j k : ℕ) (c d w : List Float) where
-  pub renewed-zero : eq (get_or d k nan) plus_zero ≡ true → (d, w) ≡ renewed_at j k c d w
-  unfolding renewed
-  renewed-zero h = rw (h, renewed) (rw (set-get_or d k nan, set-get_or w k nan))
+module _ (j k : ℕ) (r : Reduction) where
+  abbrev d : Float
+  d = get_or r.diag k nan
 
-  pub renewed_anew : (z s x : Float) → eq (get_or d k nan) plus_zero ≡ false → x ≡ get_or c j nan → s ≡ shrunk (get_or d k nan) x → stale s (get_or w k nan) ≡ true
-      → z ≡ norm (drop (suc j) c) → (set d k z, set w k z) ≡ renewed_at j k c d w
-  unfolding renewed
+  abbrev c : List Float
+  c = get_or r.cols k []
+
+  pub renewed-zero : eq d plus_zero ≡ true → r ≡ renewing j k r
+  unfolding renewed renewing
+  renewed-zero h = rw (h, renewed) (rw (set-get_or r.diag k nan, set-get_or r.work k nan))
+
+  pub renewed_anew : (z s x : Float) → eq d plus_zero ≡ false → x ≡ get_or c j nan → s ≡ shrunk d x → stale s (get_or r.work k nan) ≡ true
+      → z ≡ norm (drop (suc j) c) → reduction r.cols (set r.diag k z) (set r.work k z) r.order r.rhs ≡ renewing j k r
+  unfolding renewed renewing
   renewed_anew z s x h ex es t ez =
-      let f : s ≡ shrunk (get_or d k nan) (get_or c j nan) = es ∙ ap (shrunk (get_or d k nan)) ex in
+      let f : s ≡ shrunk d (get_or c j nan) = es ∙ ap (shrunk d) ex in
       rw (ez, h, rw f at t, renewed)
 
-  pub renewed_less : (s x : Float) → eq (get_or d k nan) plus_zero ≡ false → x ≡ get_or c j nan → s ≡ shrunk (get_or d k nan) x → stale s (get_or w k nan) ≡ false
-      → (set d k s, w) ≡ renewed_at j k c d w
-  unfolding renewed
+  pub renewed_less : (s x : Float) → eq d plus_zero ≡ false → x ≡ get_or c j nan → s ≡ shrunk d x → stale s (get_or r.work k nan) ≡ false
+      → reduction r.cols (set r.diag k s) r.work r.order r.rhs ≡ renewing j k r
+  unfolding renewed renewing
   renewed_less s x h ex es t =
-      let f : s ≡ shrunk (get_or d k nan) (get_or c j nan) = es ∙ ap (shrunk (get_or d k nan)) ex in
-      rw (f, h, rw f at t, renewed) (rw (set-get_or w k nan))
+      let f : s ≡ shrunk d (get_or c j nan) = es ∙ ap (shrunk d) ex in
+      rw (f, h, rw f at t, renewed) (rw (set-get_or r.work k nan))
 
--- ---- and what is measured for it
-module _ (j k : ℕ) (c d w : List Float) (seen : Ranges) where
-  pub remeasured-zero : eq (get_or d k nan) plus_zero ≡ true → seen ≡ either seen (ranges_of (remeasured_at j k c d w))
-  unfolding remeasured ranges_of
-  remeasured-zero h = sym (rw (h, remeasured) (either_none seen))
+  -- and what is measured for it
+  module _ (seen : Ranges) where
+    pub remeasured-zero : eq d plus_zero ≡ true → seen ≡ either seen (ranges_of (measured_renewing j k r))
+    unfolding remeasured ranges_of measured_renewing
+    remeasured-zero h = sym (rw (h, remeasured) (either_none seen))
 
-  pub remeasured_anew : (more : Ranges) (s x : Float) → eq (get_or d k nan) plus_zero ≡ false → x ≡ get_or c j nan → s ≡ shrunk (get_or d k nan) x → stale s (get_or w k nan) ≡ true
-      → more ≡ ranges (drop (suc j) c) → either seen more ≡ either seen (ranges_of (remeasured_at j k c d w))
-  unfolding remeasured
-  remeasured_anew more s x h ex es t em =
-      let f : s ≡ shrunk (get_or d k nan) (get_or c j nan) = es ∙ ap (shrunk (get_or d k nan)) ex in
-      rw (h, rw f at t, remeasured) (ap (either seen) (em ∙ sym (ranges_of_one (drop (suc j) c))))
+    pub remeasured_anew : (more : Ranges) (s x : Float) → eq d plus_zero ≡ false → x ≡ get_or c j nan → s ≡ shrunk d x → stale s (get_or r.work k nan) ≡ true
+        → more ≡ ranges (drop (suc j) c) → either seen more ≡ either seen (ranges_of (measured_renewing j k r))
+    unfolding remeasured measured_renewing
+    remeasured_anew more s x h ex es t em =
+        let f : s ≡ shrunk d (get_or c j nan) = es ∙ ap (shrunk d) ex in
+        rw (h, rw f at t, remeasured) (ap (either seen) (em ∙ sym (ranges_of_one (drop (suc j) c))))
 
-  pub remeasured_less : (s x : Float) → eq (get_or d k nan) plus_zero ≡ false → x ≡ get_or c j nan → s ≡ shrunk (get_or d k nan) x → stale s (get_or w k nan) ≡ false
-      → seen ≡ either seen (ranges_of (remeasured_at j k c d w))
-  unfolding remeasured ranges_of
-  remeasured_less s x h ex es t =
-      let f : s ≡ shrunk (get_or d k nan) (get_or c j nan) = es ∙ ap (shrunk (get_or d k nan)) ex in
-      sym (rw (h, rw f at t, remeasured) (either_none seen))
+    pub remeasured_less : (s x : Float) → eq d plus_zero ≡ false → x ≡ get_or c j nan → s ≡ shrunk d x → stale s (get_or r.work k nan) ≡ false
+        → seen ≡ either seen (ranges_of (measured_renewing j k r))
+    unfolding remeasured ranges_of measured_renewing
+    remeasured_less s x h ex es t =
+        let f : s ≡ shrunk d (get_or c j nan) = es ∙ ap (shrunk d) ex in
+        sym (rw (h, rw f at t, remeasured) (either_none seen))
 
 -- ---- a later column
-pub later-measured : (n j k : ℕ) (axis : List Float) (g g' : List (List Float)) (d w : List Float) (o : List ℕ) (seen : Ranges) {seen' : Ranges} → k < n → length g ≡ suc n
-    → g' ≡ set g k (reflect_from j axis (get_or g k [])) → seen' ≡ either seen (ranges_of (remeasured_at j k (get_or g' k []) d w))
-    → seen' ≡ either seen (ranges_of (measured_later j axis k (reduction (take n g) d w o (get_or g n []))))
-unfolding measured_later
-later-measured n j k axis g g' d w o seen hk hl e p =
-    let c : List Float = reflect_from j axis (get_or g k []) in
-    let same : get_or g' k [] ≡ c = rw e (get_or-set_same g k c [] (omega arith)) in
-    let there : c ≡ reflect_from j axis (get_or (take n g) k []) = ap (reflect_from j axis) (sym (get_or-take n g k [] hk)) in
-    p ∙ ap (λ (x : List Float). either seen (ranges_of (remeasured_at j k x d w))) (same ∙ there)
+module _ (n j k : ℕ) (axis : List Float) (g g' : List (List Float)) (d w : List Float) (o : List ℕ) (hk : k < n) (hl : length g ≡ suc n) (e : g' ≡ set g k (reflect_from j axis (get_or g k []))) where
+  abbrev r : Reduction
+  r = reduction (take n g) d w o (get_or g n [])
 
-pub later_law : (n j k : ℕ) (axis : List Float) (g g' : List (List Float)) (d w d' w' : List Float) (o : List ℕ) → k < n → length g ≡ suc n
-    → g' ≡ set g k (reflect_from j axis (get_or g k [])) → (d', w') ≡ renewed_at j k (get_or g' k []) d w
-    → reduction (take n g') d' w' o (get_or g' n []) ≡ later j axis k (reduction (take n g) d w o (get_or g n []))
-unfolding later
-later_law n j k axis g g' d w d' w' o hk hl e p =
-    let c : List Float = reflect_from j axis (get_or g k []) in
-    let same : get_or g' k [] ≡ c = rw e (get_or-set_same g k c [] (omega arith)) in
-    let first : take n g' ≡ set (take n g) k c = rw e (take-set-lt n g k c hk) in
-    let last : get_or g' n [] ≡ get_or g n [] = rw e (get_or-set_other g k n c [] (λ (q : n ≡ k). omega arith)) in
-    let q : (d', w') ≡ renewed_at j k c d w = p ∙ rw same in
-    let pd = ap (λ (x : List Float × List Float). x.0) q in
-    let pw = ap (λ (x : List Float × List Float). x.1) q in
-    rw (first, last, pd, pw, get_or-take n g k [] hk)
+  abbrev r' : Reduction
+  r' = reduction (take n g') d w o (get_or g' n [])
+
+  same : get_or (take n g') k [] ≡ reflect_from j axis (get_or (take n g) k [])
+  same = rw (get_or-take n g' k [] hk, get_or-take n g k [] hk, e) (get_or-set_same g k (reflect_from j axis (get_or g k [])) [] (omega arith))
+
+  pub later-measured : measured_renewing j k r' ≡ measured_later j axis k r
+  unfolding measured_later measured_renewing
+  later-measured = ap (λ (x : List Float). remeasured (get_or d k nan) (get_or w k nan) (get_or x j nan) (drop (suc j) x)) same
+
+  pub later_law : renewing j k r' ≡ later j axis k r
+  unfolding later renewing
+  later_law =
+      let c : List Float = reflect_from j axis (get_or g k []) in
+      let first : take n g' ≡ set (take n g) k c = rw e (take-set-lt n g k c hk) in
+      let last : get_or g' n [] ≡ get_or g n [] = rw e (get_or-set_other g k n c [] (λ (q : n ≡ k). omega arith)) in
+      rw (same, first, last, get_or-take n g k [] hk)

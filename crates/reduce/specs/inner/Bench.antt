@@ -3,12 +3,12 @@ use Rattle.std.specs.Prelude.{ℕ, suc, ◌*◌, ◌≤◌, ◌≡◌, Bool, Lis
 use Rattle.std.specs.Float.{nan, binary64}
 use Rattle.std.specs.Float.Ieee.{div, mul, neg, le}
 use Rattle.leaves.specs.Number.{square_of, epsmch}
-use Rattle.leaves.specs.Norm.{norm, either, ranges_of}
+use Rattle.leaves.specs.Norm.{norm, ranges_of}
 use Rattle.leaves.specs.declared.norm.Ranges.{Ranges}
 use Rattle.leaves.specs.Reply.{Reply, answered}
 use Rattle.leaves.specs.Triangle.{columns}
 use Rattle.leaves.specs.Loop.{between}
-use Rattle.reduce.specs.Reduction.{Reduction, reduction, with_diag, with_rhs, reflect_from, later, renewed, twentieth, reduction_of, remeasured, measured}
+use Rattle.reduce.specs.Reduction.{Reduction, reduction, swap, with_diag, with_rhs, reflect_from, later, renewed, twentieth, reduction_of, remeasured, measured}
 
 -- the bench by columns: the Jacobian's n, and the residuals as one more
 abbrev pub grid : ℕ → ℕ → List Float → List (List Float)
@@ -27,31 +27,24 @@ under_way m n bench diag work order = reduction (take n (grid m n bench)) diag w
 abbrev pub divided : Float → List Float → List Float
 divided t c = map (λ x. div binary64 x t) c
 
--- what is made of r_diag and work where column k, later than j, is c after its reflection
-abbrev pub renewed_at : ℕ → ℕ → List Float → List Float → List Float → List Float × List Float
-renewed_at j k c diag work =
-    let p = renewed (get_or diag k nan) (get_or work k nan) (get_or c j nan) (norm (drop (suc j) c)) in
-    (set diag k p.0, set work k p.1)
+-- r_diag and work at column k, later than j, once its reflection has made it what it is
+unfoldable pub renewing : ℕ → ℕ → Reduction → Reduction
+renewing j k r =
+    let c = get_or r.cols k [] in
+    let p = renewed (get_or r.diag k nan) (get_or r.work k nan) (get_or c j nan) (norm (drop (suc j) c)) in
+    reduction r.cols (set r.diag k p.0) (set r.work k p.1) r.order r.rhs
 
 -- and which vector is measured for it
-abbrev pub remeasured_at : ℕ → ℕ → List Float → List Float → List Float → List (List Float)
-remeasured_at j k c diag work = remeasured (get_or diag k nan) (get_or work k nan) (get_or c j nan) (drop (suc j) c)
+unfoldable pub measured_renewing : ℕ → ℕ → Reduction → List (List Float)
+measured_renewing j k r = let c = get_or r.cols k [] in remeasured (get_or r.diag k nan) (get_or r.work k nan) (get_or c j nan) (drop (suc j) c)
+
+-- place k of r_diag and work as place j has it, and entries j and k of the order exchanged
+unfoldable pub moved : ℕ → ℕ → Reduction → Reduction
+moved j k r = reduction r.cols (set r.diag k (get_or r.diag j nan)) (set r.work k (get_or r.work j nan)) (swap 0 j k r.order) r.rhs
 
 -- whether a partial norm s, whose last anew was w, has lost too much
 abbrev pub stale : Float → Float → Bool
 stale s w = le (mul binary64 twentieth (square_of (div binary64 s w))) epsmch
-
--- a step f that leaves the order list alone
-abbrev pub Steps : ℕ → ℕ → (Reduction → Reduction) → List Float → List Float → List Float → List Float → List Float → List Float → Type 0
-Steps m n f bench diag work bench' diag' work' = (o : List ℕ) → under_way m n bench' diag' work' o ≡ f (under_way m n bench diag work o)
-
--- the flags `seen` handed on by a step that measures what g says, whatever the order list holds
-abbrev pub Sees : ℕ → ℕ → (Reduction → List (List Float)) → List Float → List Float → List Float → Ranges → Ranges → Type 0
-Sees m n g bench diag work seen seen' = (o : List ℕ) → seen' ≡ either seen (ranges_of (g (under_way m n bench diag work o)))
-
--- place i of columns j and k exchanged
-unfoldable pub swap_place : ℕ → ℕ → ℕ → List (List Float) → List (List Float)
-swap_place j k i g = set (set g j (set (get_or g j []) i (get_or (get_or g k []) i nan))) k (set (get_or g k []) i (get_or (get_or g j []) i nan))
 
 -- the later columns and the residuals reflected along a given axis, whose column has the signed norm t
 unfoldable pub swept : ℕ → ℕ → Float → List Float → Reduction → Reduction

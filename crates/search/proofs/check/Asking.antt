@@ -6,15 +6,18 @@ use Prim.Native.Nat.{ℕ, ◌≤◌, min}
 use native.Mathlib.Omega.{arith}
 use lib.ListN.{length, take}
 use lib.Ieee.{Float}
+use Rattle.leaves.specs.Reply.{refusal_number}
+use Rattle.leaves.specs.declared.reply.Refusal.{Refusal}
 use Rattle.leaves.specs.Number.{is_finite}
 use Rattle.leaves.specs.Tests.{Test, first_of, none_zero, all_finite}
 use Rattle.factor.specs.Tests.{finite_test, finite_number, not_above, below, solve_tests}
 use Rattle.factor.specs.declared.state.State.{State}
+use Rattle.leaves.proofs.Replies.{refusal_number-some}
 use Rattle.leaves.proofs.Refusals.{stopped, test_met, went_to, past, none_left}
 use Rattle.factor.proofs.Passed.{solve_passed}
 use Rattle.search.specs.Search.{search_tests}
 
-module _ (st : State) (store : ℕ) (order : List ℕ) (diag : List Float) (radius lambda : Float) (out : ℕ) {c k : ℕ} (m : k ≡ min (length diag) out) (e : c ≡ first_of (solve_tests st store order k)) where
+module _ (st : State) (store : ℕ) (order : List ℕ) (diag : List Float) (radius lambda : Float) (out : ℕ) {k : ℕ} (m : k ≡ min (length diag) out) where
   abbrev first : List Test
   first = solve_tests st store order (min (length diag) out)
 
@@ -24,18 +27,18 @@ module _ (st : State) (store : ℕ) (order : List ℕ) (diag : List Float) (radi
   abbrev all : ℕ
   all = first_of (search_tests st store order diag radius lambda out)
 
-  e' : c ≡ first_of first
-  e' = e ∙ ap (λ (j : ℕ). first_of (solve_tests st store order j)) m
+  asked : {c : ℕ} → c ≡ first_of (solve_tests st store order k) → c ≡ first_of first
+  asked e = e ∙ ap (λ (j : ℕ). first_of (solve_tests st store order j)) m
 
-  pub first_met : (c ≡ 0 → ⊥) → c ≡ all
-  first_met h = sym (stopped first numbers c e' h)
+  pub first_met : (r : Refusal) → refusal_number r ≡ first_of (solve_tests st store order k) → refusal_number r ≡ all
+  first_met r e = sym (stopped first numbers (refusal_number r) (asked e) (refusal_number-some r))
 
-  module _ (z : c ≡ 0) where
+  module _ (e : 0 ≡ first_of (solve_tests st store order k)) where
     pub diag_long : st.n ≤ length diag
-    diag_long = omega (arith, (solve_passed st store order (min (length diag) out) (sym e' ∙ z)).room.each_long)
+    diag_long = omega (arith, (solve_passed st store order (min (length diag) out) (sym (asked e))).room.each_long)
 
     to : {j : ℕ} → j ≡ first_of numbers → j ≡ all
-    to h = went_to first numbers refl e' z h
+    to h = went_to first numbers refl (asked e) refl h
 
     pub diag_met : not (all_finite (take st.n diag)) ≡ true → 6 ≡ all
     diag_met h = to (sym (test_met _ _ h))

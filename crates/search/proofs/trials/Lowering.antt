@@ -3,23 +3,16 @@ use mathlib.Core.Path.{◌≡◌, sym, ap, ◌∙◌}
 use mathlib.Core.List.{List}
 use Prim.Native.Nat.{ℕ}
 use native.Mathlib.Omega.{arith}
-use lib.ListN.{length, take, length-map}
+use lib.ListN.{length, length-map}
 use lib.Ieee.{Float}
-use Rattle.leaves.specs.Root.{root_s}
-use Rattle.leaves.specs.Vector.{scale_all}
 use Rattle.factor.specs.Room.{Room, load, lay, leaving, emptied}
 use Rattle.leaves.specs.Square.{cleared}
 use Rattle.eliminate.specs.Eliminate.{Rows, heads, tails}
-use Rattle.factor.specs.declared.state.State.{State}
 use Rattle.factor.proofs.Damped.{cleared-same}
 use Rattle.factor.proofs.Layouts.{load-lay}
 use Rattle.eliminate.proofs.Triangular.{heads-length}
 use Rattle.factor.specs.PivotOrder.{lowered}
-use Rattle.search.specs.Problem.{damped_rows}
-use Rattle.search.specs.Search.{problem_of}
-use Rattle.search.specs.inner.Read.{Ready}
-use Rattle.search.proofs.Shapes.{Even, tri_length, tails_tall, gathered_even}
-use Rattle.search.proofs.Workings.{shaped, order_long}
+use Rattle.search.proofs.Shapes.{Even, tri_length, tails_tall}
 use Rattle.factor.specs.inner.Rooms.{Shaped}
 
 module _ (n : ℕ) (l : Rows) (r : Room) (z : Shaped n r) (e : Even n l) where
@@ -54,10 +47,3 @@ module _ (n : ℕ) (l : Rows) (r : Room) (z : Shaped n r) (e : Even n l) where
 
   pub lowered_loaded : {s : List Float} → s ≡ lay (lowered l r) → load n s ≡ lowered l r
   lowered_loaded h = ap (λ (s : List Float). load n s) h ∙ load-lay n (lowered l r) lowered_shaped
-
--- the rows of a problem that passes the tests
-pub rows_fit : (st : State) (store : List Float) (order : List ℕ) → Ready st store order → (diag : List Float) (lambda radius : Float)
-    → Even st.n (damped_rows (problem_of st order diag radius (load st.n store)) lambda)
-unfolding damped_rows
-rows_fit st store order e diag lambda radius =
-    gathered_even st.n order (scale_all (root_s lambda) (take st.n diag)) (load st.n store) (shaped st store order e) (order_long st store order e)

@@ -6,7 +6,6 @@ use native.Mathlib.Omega.{arith}
 use lib.ListN.{length, take}
 use lib.Seq.{take_all}
 use lib.Ieee.{Float}
-use Rattle.leaves.specs.Number.{plus_zero}
 use Rattle.leaves.specs.Norm.{norm, ranges}
 use Rattle.leaves.specs.declared.norm.Ranges.{Ranges}
 use Rattle.leaves.specs.Product.{product_all}
@@ -19,68 +18,77 @@ use Rattle.factor.specs.declared.state.Held.TheVariants as held
 use Rattle.factor.specs.PivotOrder.{lowered}
 use Rattle.search.specs.Problem.{Problem, placed, damped_rows, damped_step, scaled_step, direction, damped_slope, newton}
 use Rattle.search.specs.Measured.{held_by_l}
-use Rattle.search.specs.Search.{problem_of}
-use Rattle.search.specs.inner.Read.{Ready, turned_by}
+use Rattle.search.specs.declared.lent.TrustRegion.{TrustRegion}
+use Rattle.search.specs.inner.Read.{turned_by}
+use Rattle.search.specs.inner.Asked.{asked, room, held_by, Kept}
 use Rattle.search.proofs.Seeing.{damped_slope-measured}
-use Rattle.search.proofs.Workings.{shaped}
-use Rattle.search.proofs.trials.Lowering.{lowered-emptied, lowered_loaded, rows_fit}
+use Rattle.search.proofs.Workings.{room_shaped, rows_even}
+use Rattle.search.proofs.trials.Lowering.{lowered-emptied, lowered_loaded}
 
 -- ---- the problem is R and qt_b, which stay
-pub same_problem : (st : State) (order : List ℕ) (diag : List Float) (radius : Float) (r t : Room) → emptied r ≡ emptied t → problem_of st order diag radius r ≡ problem_of st order diag radius t
+pub same_problem : (b a : TrustRegion) → Kept b a → emptied (room a) ≡ emptied (room b) → asked a ≡ asked b
 unfolding leaving
-same_problem st order diag radius r t h =
-    let u : r.upper ≡ t.upper = ap (λ (x : Room). x.upper) h in
-    let q : r.qtb ≡ t.qtb = ap (λ (x : Room). x.qtb) h in
-    rw (u, q)
+same_problem b a k h =
+    let u : (room a).upper ≡ (room b).upper = ap (λ (x : Room). x.upper) h in
+    let q : (room a).qtb ≡ (room b).qtb = ap (λ (x : Room). x.qtb) h in
+    rw (u, q, k.st, k.order, k.diag, k.radius)
 
-module _ (st : State) (store : List Float) (order : List ℕ) (e : Ready st store order) (diag : List Float) (dl : length diag ≡ st.n) (lambda radius : Float) (room₀ : Room) (kept : emptied (load st.n store) ≡ emptied room₀) where
-  abbrev room : Room
-  room = load st.n store
+pub same_room : (b a : TrustRegion) → Kept b a → a.store.now ≡ b.store.now → room a ≡ room b
+same_room b a k h = rw (k.st, h)
 
-  -- as asked, and as the steps say it
-  abbrev asked : Problem
-  asked = problem_of st order diag radius room₀
+pub kept_problem : (b a : TrustRegion) → Kept b a → a.store.now ≡ b.store.now → asked a ≡ asked b
+kept_problem b a k h = same_problem b a k (ap emptied (same_room b a k h))
 
-  abbrev here : Problem
-  here = problem_of st order diag plus_zero room
+pub kept_on : {c b a : TrustRegion} → Kept c b → Kept b a → Kept c a
+kept_on k h = record {
+  st = h.st ∙ k.st;
+  order = h.order ∙ k.order;
+  diag = h.diag ∙ k.diag;
+  radius = h.radius ∙ k.radius;
+  store = h.store ∙ k.store;
+  v = h.v ∙ k.v;
+  w = h.w ∙ k.w;
+}
 
-  rows_same : damped_rows here lambda ≡ damped_rows asked lambda
-  unfolding damped_rows
-  rows_same = ap (λ (p : Problem). damped_rows p lambda) (same_problem st order diag plus_zero room room₀ kept)
+-- before the trials, before a turn, and after the damped solve of it
+module _ (t₀ t t' : TrustRegion) (k : Kept t₀ t) (same : emptied (room t) ≡ emptied (room t₀)) (k' : Kept t t') (lambda : Float) where
+  one : asked t ≡ asked t₀
+  one = same_problem t₀ t k same
 
   -- a step in pivot order, and its scaled step
-  module _ (w : List Float) where
-    pub step_asked : placed here w ≡ damped_step here lambda → placed asked w ≡ damped_step asked lambda
-    unfolding damped_step damped_rows placed
-    step_asked h = h ∙ ap (λ (p : Problem). damped_step p lambda) (same_problem st order diag plus_zero room room₀ kept)
+  pub step_asked : placed (asked t) t'.w.now ≡ damped_step (asked t) lambda → placed (asked t₀) t'.w.now ≡ damped_step (asked t₀) lambda
+  step_asked h = sym (ap (λ (p : Problem). placed p t'.w.now) one) ∙ h ∙ ap (λ (p : Problem). damped_step p lambda) one
 
-    pub scaled-asked : {v : List Float} → v ≡ scaled_step here (placed here w) → v ≡ scaled_step asked (placed asked w)
-    unfolding placed
-    scaled-asked h = h
+  pub scaled-asked : t'.v.now ≡ scaled_step (asked t) (placed (asked t) t'.w.now) → t'.v.now ≡ scaled_step (asked t₀) (placed (asked t₀) t'.w.now)
+  scaled-asked h = h ∙ ap (λ (p : Problem). scaled_step p (placed p t'.w.now)) one
 
-  module _ (s' : List Float) (h : s' ≡ lay (lowered (damped_rows here lambda) room)) where
-    pub left_loaded : load st.n s' ≡ lowered (damped_rows here lambda) room
-    left_loaded = lowered_loaded st.n (damped_rows here lambda) room (shaped st store order e) (rows_fit st store order e diag lambda plus_zero) h
+  module _ (h : t'.store.now ≡ lay (lowered (damped_rows (asked t) lambda) (room t))) where
+    left_loaded : room t' ≡ lowered (damped_rows (asked t) lambda) (room t)
+    left_loaded = ap (λ (st : State). load st.n t'.store.now) k'.st ∙ lowered_loaded t.st.n (damped_rows (asked t) lambda) (room t) (room_shaped t) (rows_even t lambda) h
 
-    pub damped-kept : emptied (load st.n s') ≡ emptied room₀
-    damped-kept = ap emptied left_loaded ∙ lowered-emptied st.n (damped_rows here lambda) room (shaped st store order e) (rows_fit st store order e diag lambda plus_zero) ∙ kept
+    pub damped-kept : emptied (room t') ≡ emptied (room t₀)
+    damped-kept = ap emptied left_loaded ∙ lowered-emptied t.st.n (damped_rows (asked t) lambda) (room t) (room_shaped t) (rows_even t lambda) ∙ same
 
-    -- the held solve, by the scaled step v of the step p
-    held-asked : (nrm : Float) (p v : List Float) → nrm ≡ norm v → v ≡ product_all p (take st.n diag)
-        → held_solved held.Damped (gather (take st.n order) (turned_by nrm v diag)) (load st.n s') ≡ held_by_l asked lambda p
+    -- the held solve, by the scaled step of the step p
+    held-asked : (nrm : Float) (p : List Float) → nrm ≡ norm t'.v.now → t'.v.now ≡ scaled_step (asked t₀) p → held_by held.Damped t' nrm ≡ held_by_l (asked t₀) lambda p
     unfolding held_by_l direction held_solved lowered
-    held-asked nrm p v a b =
-        let f : forward_lower (load st.n s').ldiag (load st.n s').below ≡ forward_lower (heads (damped_rows asked lambda).0) (tails (damped_rows asked lambda).0) =
-        rw (left_loaded, rows_same) in
-        let d : turned_by nrm v diag ≡ turned_by (norm (product_all p (take st.n diag))) (product_all p (take st.n diag)) (take st.n diag) =
-        rw (a, b, take_all st.n diag (omega arith)) in
+    held-asked nrm p a b =
+        let f : forward_lower (room t').ldiag (room t').below ≡ forward_lower (heads (damped_rows (asked t₀) lambda).0) (tails (damped_rows (asked t₀) lambda).0) =
+        ap (λ (r : Room). forward_lower r.ldiag r.below) left_loaded ∙ ap (λ (q : Problem). forward_lower (heads (damped_rows q lambda).0) (tails (damped_rows q lambda).0)) one in
+        let s = k'.st ∙ k.st in
+        let o = k'.order ∙ k.order in
+        let g = k'.diag ∙ k.diag in
+        let v = product_all p (take t₀.st.n t₀.diag.now) in
+        let d : gather (take t'.st.n t'.order.places.now) (turned_by nrm t'.v.now t'.diag.now) ≡ gather (take t₀.st.n t₀.order.places.now) (turned_by (norm v) v (take t₀.st.n t₀.diag.now)) =
+        rw (a, b, s, o, g, take_all t₀.st.n t₀.diag.now (omega (arith, t₀.diag_len))) in
         rw (f, d)
 
     -- the correction, and what its norm saw
-    pub correction-asked : (fp nrm : Float) (p v : List Float) {c : Float} {seen : Ranges} → nrm ≡ norm v → v ≡ product_all p (take st.n diag)
-        → c ≡ newton fp radius (norm (held_solved held.Damped (gather (take st.n order) (turned_by nrm v diag)) (load st.n s')))
-        → seen ≡ ranges (held_solved held.Damped (gather (take st.n order) (turned_by nrm v diag)) (load st.n s'))
-        → (c ≡ newton fp radius (damped_slope asked lambda p)) × (seen ≡ ranges (held_by_l asked lambda p))
-    correction-asked fp nrm p v a b k f =
-        let u = held-asked nrm p v a b in
-        (k ∙ ap (λ (x : List Float). newton fp radius (norm x)) u ∙ ap (newton fp radius) (sym (damped_slope-measured asked lambda p)), f ∙ ap ranges u)
+    pub correction-asked : (fp nrm : Float) (p : List Float) {c : Float} {seen : Ranges} → nrm ≡ norm t'.v.now → t'.v.now ≡ scaled_step (asked t₀) p
+        → c ≡ newton fp t'.radius (norm (held_by held.Damped t' nrm)) → seen ≡ ranges (held_by held.Damped t' nrm)
+        → (c ≡ newton fp t₀.radius (damped_slope (asked t₀) lambda p)) × (seen ≡ ranges (held_by_l (asked t₀) lambda p))
+    correction-asked fp nrm p a b q f =
+        let u = held-asked nrm p a b in (
+          q ∙ ap (λ (x : List Float). newton fp t'.radius (norm x)) u ∙ ap (newton fp t'.radius) (sym (damped_slope-measured (asked t₀) lambda p)) ∙ ap (λ (r : Float). newton fp r (damped_slope (asked t₀) lambda p)) (k'.radius ∙ k.radius),
+          f ∙ ap ranges u,
+        )

@@ -2,23 +2,22 @@
 use mathlib.Core.Path.{◌≡◌, refl, sym, ap, ◌∙◌}
 use mathlib.Core.Bool.{Bool, true, false}
 use mathlib.Core.List.{List, ◌∷◌, ◌++◌}
-use Prim.Native.Nat.{ℕ}
 use lib.Ieee.{Float, binary64, sub, le}
+use Rattle.std.specs.Prelude.{Result}
+use Rattle.leaves.specs.declared.reply.Refusal.{Refusal}
+use Rattle.search.specs.declared.LMParameter.{LMParameter}
 use Rattle.leaves.specs.Reply.{Reply, answered, refused}
 use Rattle.leaves.specs.Number.{plus_zero, is_finite}
 use Rattle.leaves.specs.Norm.{either, ranges, ranges_of}
 use Rattle.leaves.specs.declared.norm.Ranges.{Ranges}
 use Rattle.leaves.proofs.Seen.{ranges_of_one, ranges_of-append}
-use Rattle.factor.specs.Room.{Room}
-use Rattle.factor.specs.declared.state.State.{State}
-use Rattle.search.specs.Problem.{Problem, placed, undamped_step, scaled_step, scaled_norm}
+use Rattle.search.specs.Problem.{Problem, undamped_step, scaled_step, scaled_norm}
 use Rattle.search.specs.Bounds.{lower_bound_of, gnorm, band}
 use Rattle.search.specs.Run as run
 use Rattle.search.specs.Run.{Run, lower_bound, gradient_norm, run_of}
 use Rattle.search.specs.Measured.{measured_bounds, unless_stopped, measured_trials, measured_by}
-use Rattle.search.specs.Search.{problem_of, Answer, answer, concluded, answer_of}
+use Rattle.search.specs.Search.{Answer, answer, concluded, answer_of}
 use Rattle.search.specs.inner.Read.{unanswered, damped, Saw}
-use Rattle.search.specs.declared.trust_region.Found.{Found}
 use Rattle.search.proofs.Trying.{any_answer, trials_unless}
 use Rattle.search.proofs.Seeing.{saw_same}
 
@@ -96,7 +95,7 @@ module _ (p : Problem) (initial : Float) {step : List Float} {n : Float} (e : st
           let a = answer plus_zero (scaled_norm p (undamped_step p)) 0 (undamped_step p) in
           k ∙ ap (λ (x : List Float). concluded 0 unanswered (damped p initial x)) e ∙ damped-any unanswered a p initial (undamped_step p) ∙ ap (concluded 0 a) run_on
 
-      pub not_taken_seen : (r : Found) {seen : Ranges} → seen ≡ ranges (scaled_step p step)
+      pub not_taken_seen : (r : Result (LMParameter × Ranges) Refusal) {seen : Ranges} → seen ≡ ranges (scaled_step p step)
           → Saw r (either seen (either (ranges_of (measured_bounds p step)) (ranges_of (measured_trials p (damped p initial step))))) → Saw r (ranges_of (measured_by p initial))
       unfolding measured_by ranges_of
       not_taken_seen r {seen} k h =
@@ -109,16 +108,6 @@ module _ (p : Problem) (initial : Float) {step : List Float} {n : Float} (e : st
           ∙ ap (either (ranges v)) (sym (ranges_of-append (measured_bounds p s) (measured_trials p d)))
           ∙ ap (λ (vs : List (List Float)). ranges_of (v ∷ (vs ++ measured_trials p d))) (sym (damped_unless p initial s (measured_bounds p s)))
           ∙ ap (λ (x : Run). ranges_of (v ∷ (unless_stopped x (measured_bounds p s) ++ measured_trials p x))) run_on)
-
--- ---- neither the undamped step nor what it is scaled to reads the radius
-module _ (st : State) (order : List ℕ) (diag : List Float) (x y : Float) (r : Room) (w : List Float) where
-  pub undamped-asked : placed (problem_of st order diag x r) w ≡ undamped_step (problem_of st order diag x r) → placed (problem_of st order diag y r) w ≡ undamped_step (problem_of st order diag y r)
-  unfolding undamped_step placed
-  undamped-asked h = h
-
-  pub scaled-asked : {v : List Float} → v ≡ scaled_step (problem_of st order diag x r) (placed (problem_of st order diag x r) w) → v ≡ scaled_step (problem_of st order diag y r) (placed (problem_of st order diag y r) w)
-  unfolding placed
-  scaled-asked h = h
 
 pub band_test : (x radius : Float) {y : Float} {b : Bool} → y ≡ band radius → le x y ≡ b → le x (band radius) ≡ b
 band_test x radius e h = ap (le x) (sym e) ∙ h

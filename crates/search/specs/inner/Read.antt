@@ -1,8 +1,9 @@
 -- The code's structs and its answer, read as what the definitions speak of; and what its inner workings are lent.
-use Rattle.std.specs.Prelude.{ℕ, ◌≡◌, List, [], length, Float}
+use Rattle.std.specs.Prelude.{ℕ, ◌≡◌, List, [], length, Float, Result, Ok, Err}
 use Rattle.std.specs.Float.{binary64}
 use Rattle.std.specs.Float.Ieee.{sub}
-use Rattle.leaves.specs.Reply.{Reply, answered, refused}
+use Rattle.leaves.specs.Reply.{Reply, answered, refused, refusal_number}
+use Rattle.leaves.specs.declared.reply.Refusal.{Refusal}
 use Rattle.leaves.specs.Number.{plus_zero}
 use Rattle.leaves.specs.Product.{product_all, divided_by}
 use Rattle.leaves.specs.Tests.{first_of}
@@ -15,18 +16,17 @@ use Rattle.search.specs.Run.{Run, Next, Trial, finite, lower_bound, gradient_nor
 use Rattle.search.specs.Search.{Answer, answer, problem_of}
 use Rattle.factor.specs.Room.{load}
 use Rattle.search.specs.declared.bounds.Going.{Going}
-use Rattle.search.specs.declared.trust_region.Found.{Found}
-use Rattle.search.specs.declared.trust_region.Found.TheVariants as found
+use Rattle.search.specs.declared.LMParameter.{LMParameter}
 
 -- and with the step beside it
-abbrev pub with_step : Found → List Float → Reply Answer
-with_step (found.Answer a seen) step = answered (a, step)
-with_step (found.Refused k) step = refused k
+abbrev pub with_step : Result (LMParameter × Ranges) Refusal → List Float → Reply Answer
+with_step (Ok p) step = answered (p.0, step)
+with_step (Err r) step = refused (refusal_number r)
 
 -- what an answer has seen; a refusal carries no flags
-abbrev pub Saw : Found → Ranges → Type 0
-Saw (found.Answer a seen) all = seen ≡ all
-Saw (found.Refused k) all = Unit {0}
+abbrev pub Saw : Result (LMParameter × Ranges) Refusal → Ranges → Type 0
+Saw (Ok p) all = p.1 ≡ all
+Saw (Err r) all = Unit {0}
 
 -- A run that makes a trial is not read before that trial: what stands for an answer till then does not matter.
 abbrev pub unanswered : Answer

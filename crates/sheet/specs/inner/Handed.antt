@@ -1,15 +1,12 @@
 -- What the parts of the code hand each other. No public contract cites these.
 use Rattle.std.specs.Prelude.{ℕ, ◌+◌, true, false, List, eqb, length, Float}
 use Rattle.std.proofs.lemmas.List.Edits.{sets}
-use Rattle.leaves.specs.Reply.{refused, Reply, answered}
+use Rattle.leaves.specs.Reply.{refused}
 use Rattle.leaves.specs.Tests.{first_of}
 use Rattle.sheet.specs.Sheet.{job_of}
 use Rattle.sheet.specs.Tests.{number_tests, numbers_of}
 use Rattle.sheet.specs.Fit.{Fit, Finished, finished, worked}
 use Rattle.sheet.specs.declared.head.Head.{Head}
-use Rattle.sheet.specs.declared.answer.Fitted.{Fitted}
-use Rattle.sheet.specs.declared.seek.Sought.{Sought}
-use Rattle.sheet.specs.declared.seek.Sought.TheVariants as sought
 
 -- a sheet after the tests of its head and its length
 unfoldable pub numbers_call : Head → List ℕ → List Float → Finished Fit
@@ -20,8 +17,3 @@ numbers_call h s step =
 -- the place behind the bytes, and the buffer with them from place `at` on
 abbrev pub put : List ℕ → ℕ → List ℕ → ℕ × List ℕ
 put bytes at l = (at + length bytes, sets l at bytes)
-
--- 01, 'Refusal numbers': the code's answers, read as answered or refused
-abbrev pub sought_of : Sought → Reply Fitted
-sought_of (sought.Found f) = answered f
-sought_of (sought.Refused k) = refused k

@@ -1,9 +1,10 @@
-use mathlib.Core.Path.{sym, ◌∙◌}
+use mathlib.Core.Path.{◌∙◌}
 use native.Mathlib.Omega.{arith}
-use lib.ListN.{length}
 use Rattle.factor.specs.HeldCalls.{mul_call}
 use Rattle.factor.specs.declared.state.State.{State as Plain}
-use Rattle.calls.proofs.Backs.{free_few, ready_reducible, small_fits, small_long, step_fits, step_long, ended-unmarked}
+use Rattle.calls.proofs.Backs.{ended-unmarked}
+use Rattle.calls.proofs.Resting.{counted_in, rest_granted}
+use Rattle.calls.proofs.Ways.{rest_worked}
 use Rattle.calls.proofs.Helds.{mul-unmarked, mul-refused, mul_ready, mul-rested}
 use Rattle.calls.proofs.cholesky.mul_qt_b.Goals as goal
 
@@ -13,62 +14,25 @@ returns-then-marks-eq0 c =
     ended-unmarked g.st (λ (q : Plain). mul_call q g.store.now g.out.now) c.whole.ensures c.mul_qt_b-t.ensures c.marked.ensures
     ∙ mul-unmarked g.st g.store.now g.out.now c.if-marks-eq0.true
 
-pub returns-then-c-ne0 : goal.returns-then-c-ne0
-returns-then-c-ne0 c =
+pub returns-in-Err : goal.returns-in-Err
+returns-in-Err c =
     let g = c.args in
-    mul-refused g.st g.store.now g.out.now c.if-marks-eq0.false c.check_mul-c.ensures c.if-c-ne0.true
+    mul-refused g.st g.store.now g.out.now _ c.if-marks-eq0.false c.in-Err.ensures
 
-pub store_need-need-requires : goal.store_need-need-requires
-store_need-need-requires c =
-    let g = c.args in
-    let s = length g.out.now in
-    let h = mul_ready g.st g.store.now g.out.now c.if-marks-eq0.false c.check_mul-c.ensures c.if-c-ne0.false in
-    free_few g.st g.store.now s h c.free_count-free.ensures
+pub invariant_of-p : goal.invariant_of-p
+invariant_of-p c = let g = c.args in record { reducible = counted_in (mul_ready g.st g.store.now g.out.now c.if-marks-eq0.false c.in_default.ensures) c.free_count-free.ensures }
 
-pub slice_bounds-small-end : goal.slice_bounds-small-end
-slice_bounds-small-end c =
+pub mul_qt_b-answer-requires : goal.mul_qt_b-answer-requires
+mul_qt_b-answer-requires c =
     let g = c.args in
-    let s = length g.out.now in
-    let h = mul_ready g.st g.store.now g.out.now c.if-marks-eq0.false c.check_mul-c.ensures c.if-c-ne0.false in
-    small_fits g.st g.store.now s h c.free_count-free.ensures _ c.store_need-need.ensures c.room320-small.ensures
+    let h = mul_ready g.st g.store.now g.out.now c.if-marks-eq0.false c.in_default.ensures in
+    omega (arith, h.each_long)
 
-pub slice_bounds-mul_frozen-end : goal.slice_bounds-mul_frozen-end
-slice_bounds-mul_frozen-end c =
-    let g = c.args in
-    let s = length g.out.now in
-    let h = mul_ready g.st g.store.now g.out.now c.if-marks-eq0.false c.check_mul-c.ensures c.if-c-ne0.false in
-    sym (small_long g.st g.store.now s h c.free_count-free.ensures _ c.store_need-need.ensures c.room320-small.ensures)
-
-pub slice_bounds-x-end : goal.slice_bounds-x-end
-slice_bounds-x-end c =
-    let g = c.args in
-    let s = length g.out.now in
-    let h = mul_ready g.st g.store.now g.out.now c.if-marks-eq0.false c.check_mul-c.ensures c.if-c-ne0.false in
-    step_fits g.st g.store.now s h c.free_count-free.ensures _ c.room16-x.ensures
-
-pub slice_bounds-mul_frozen-end-2 : goal.slice_bounds-mul_frozen-end-2
-slice_bounds-mul_frozen-end-2 c =
-    let g = c.args in
-    let s = length g.out.now in
-    let h = mul_ready g.st g.store.now g.out.now c.if-marks-eq0.false c.check_mul-c.ensures c.if-c-ne0.false in
-    sym (step_long g.st g.store.now s h c.free_count-free.ensures _ c.room16-x.ensures)
-
-pub mul_frozen-answer-requires : goal.mul_frozen-answer-requires
-mul_frozen-answer-requires c =
-    let g = c.args in
-    let s = length g.out.now in
-    let h = mul_ready g.st g.store.now g.out.now c.if-marks-eq0.false c.check_mul-c.ensures c.if-c-ne0.false in
-    let small = small_long g.st g.store.now s h c.free_count-free.ensures _ c.store_need-need.ensures c.room320-small.ensures ∙ c.store_need-need.ensures in
-    record { reducible = ready_reducible g.st g.store.now s h c.free_count-free.ensures; small_len = (small, step_long g.st g.store.now s h c.free_count-free.ensures _ c.room16-x.ensures, omega (arith, h.each_long)) }
-
-pub rest_in-requires : goal.rest_in-requires
-rest_in-requires c =
-    let g = c.args in
-    let s = length g.out.now in
-    let h = mul_ready g.st g.store.now g.out.now c.if-marks-eq0.false c.check_mul-c.ensures c.if-c-ne0.false in
-    ready_reducible g.st g.store.now s h c.free_count-free.ensures
+pub unwrap-requires : goal.unwrap-requires
+unwrap-requires c = let g = c.args in rest_granted (mul_ready g.st g.store.now g.out.now c.if-marks-eq0.false c.in_default.ensures) c.rest.result c.rest.ensures
 
 pub returns : goal.returns
 returns c =
     let g = c.args in
-    mul-rested g.st g.store.now g.out.now c.if-marks-eq0.false c.check_mul-c.ensures c.if-c-ne0.false _ c.mul_frozen-answer.ensures c.rest_in.ensures c.free_count-free.ensures c.room16-x.ensures
+    let r = mul_ready g.st g.store.now g.out.now c.if-marks-eq0.false c.in_default.ensures in
+    mul-rested g.st g.store.now g.out.now c.if-marks-eq0.false c.in_default.ensures c.mul_qt_b-answer.ensures (rest_worked r.reducible _ _ c.rest.ensures).1

@@ -1,11 +1,11 @@
-use mathlib.Core.Path.{sym, ap, ◌∙◌}
+use mathlib.Core.Path.{ap, ◌∙◌}
 use native.Mathlib.Omega.{arith}
-use lib.ListN.{length}
+use Rattle.std.proofs.lemmas.Result.{err_from_is_err_and}
 use Rattle.factor.specs.Outcome.{read_of as Read-of}
 use Rattle.factor.specs.HeldCalls.{mul_call}
 use Rattle.factor.specs.declared.state.State.{State as Plain}
 use Rattle.calls.specs.HeldCalls.{marked_read}
-use Rattle.calls.proofs.Backs.{free_few, ready_reducible, small_fits, small_long, step_fits, step_long}
+use Rattle.calls.proofs.Resting.{counted_in}
 use Rattle.calls.proofs.Helds.{mul-unmarked, mul-refused, mul_ready, mul-worked}
 use Rattle.calls.proofs.cholesky.mul_read.Goals as goal
 
@@ -15,55 +15,20 @@ returns-then-marks-eq0 c =
     let w = ap (λ (q : Plain). Read-of (mul_call q g.store.now g.out.now)) c.whole.ensures in
     c.mul_read.ensures ∙ w ∙ ap marked_read (mul-unmarked g.st g.store.now g.out.now c.if-marks-eq0.true)
 
-pub returns-then-c-ne0 : goal.returns-then-c-ne0
-returns-then-c-ne0 c =
+pub returns-in_err-check_mul : goal.returns-in_err-check_mul
+returns-in_err-check_mul c =
     let g = c.args in
-    ap marked_read (mul-refused g.st g.store.now g.out.now c.if-marks-eq0.false c.check_mul-c.ensures c.if-c-ne0.true)
+    let p = err_from_is_err_and c.from_residual.result c.from_residual.ensures.1 in
+    rw (p.1, p.2) (ap marked_read (mul-refused g.st g.store.now g.out.now _ c.if-marks-eq0.false c.in_err-check_mul.ensures))
 
-pub store_need-need-requires : goal.store_need-need-requires
-store_need-need-requires c =
-    let g = c.args in
-    let s = length g.out.now in
-    let h = mul_ready g.st g.store.now g.out.now c.if-marks-eq0.false c.check_mul-c.ensures c.if-c-ne0.false in
-    free_few g.st g.store.now s h c.free_count-free.ensures
+pub invariant_of-p : goal.invariant_of-p
+invariant_of-p c = let g = c.args in record { reducible = counted_in (mul_ready g.st g.store.now g.out.now c.if-marks-eq0.false c.in_ok-check_mul.ensures) c.free_count-free.ensures }
 
-pub slice_bounds-small-end : goal.slice_bounds-small-end
-slice_bounds-small-end c =
+pub mul_qt_b-requires : goal.mul_qt_b-requires
+mul_qt_b-requires c =
     let g = c.args in
-    let s = length g.out.now in
-    let h = mul_ready g.st g.store.now g.out.now c.if-marks-eq0.false c.check_mul-c.ensures c.if-c-ne0.false in
-    small_fits g.st g.store.now s h c.free_count-free.ensures _ c.store_need-need.ensures c.room320-small.ensures
-
-pub slice_bounds-mul_frozen-end : goal.slice_bounds-mul_frozen-end
-slice_bounds-mul_frozen-end c =
-    let g = c.args in
-    let s = length g.out.now in
-    let h = mul_ready g.st g.store.now g.out.now c.if-marks-eq0.false c.check_mul-c.ensures c.if-c-ne0.false in
-    sym (small_long g.st g.store.now s h c.free_count-free.ensures _ c.store_need-need.ensures c.room320-small.ensures)
-
-pub slice_bounds-x-end : goal.slice_bounds-x-end
-slice_bounds-x-end c =
-    let g = c.args in
-    let s = length g.out.now in
-    let h = mul_ready g.st g.store.now g.out.now c.if-marks-eq0.false c.check_mul-c.ensures c.if-c-ne0.false in
-    step_fits g.st g.store.now s h c.free_count-free.ensures _ c.room16-x.ensures
-
-pub slice_bounds-mul_frozen-end-2 : goal.slice_bounds-mul_frozen-end-2
-slice_bounds-mul_frozen-end-2 c =
-    let g = c.args in
-    let s = length g.out.now in
-    let h = mul_ready g.st g.store.now g.out.now c.if-marks-eq0.false c.check_mul-c.ensures c.if-c-ne0.false in
-    sym (step_long g.st g.store.now s h c.free_count-free.ensures _ c.room16-x.ensures)
-
-pub mul_frozen-requires : goal.mul_frozen-requires
-mul_frozen-requires c =
-    let g = c.args in
-    let s = length g.out.now in
-    let h = mul_ready g.st g.store.now g.out.now c.if-marks-eq0.false c.check_mul-c.ensures c.if-c-ne0.false in
-    let small = small_long g.st g.store.now s h c.free_count-free.ensures _ c.store_need-need.ensures c.room320-small.ensures ∙ c.store_need-need.ensures in
-    record { reducible = ready_reducible g.st g.store.now s h c.free_count-free.ensures; small_len = (small, step_long g.st g.store.now s h c.free_count-free.ensures _ c.room16-x.ensures, omega (arith, h.each_long)) }
+    let h = mul_ready g.st g.store.now g.out.now c.if-marks-eq0.false c.in_ok-check_mul.ensures in
+    omega (arith, h.each_long)
 
 pub returns : goal.returns
-returns c =
-    let g = c.args in
-    c.mul_frozen.ensures ∙ ap marked_read (mul-worked g.st g.store.now g.out.now c.if-marks-eq0.false c.check_mul-c.ensures c.if-c-ne0.false _ c.free_count-free.ensures c.room16-x.ensures)
+returns c = let g = c.args in c.mul_qt_b.ensures ∙ ap marked_read (mul-worked g.st g.store.now g.out.now c.if-marks-eq0.false c.in_ok-check_mul.ensures)

@@ -1,12 +1,11 @@
 use mathlib.Core.Path.{sym, ◌∙◌}
-use Prim.Native.Nat.{min}
 use native.Mathlib.Omega.{arith}
-use lib.ListN.{length}
-use lib.Seq.{length-take-le}
 use Rattle.factor.specs.HeldCalls.{solve_call}
 use Rattle.factor.specs.declared.state.State.{State as Plain}
-use Rattle.calls.proofs.Backs.{free_few, ready_reducible, first_long, small_fits, small_long, step_fits, step_long, ended-unmarked}
-use Rattle.calls.proofs.Helds.{put-fits, solve-unmarked, solve-refused, solve_ready, solve-rested}
+use Rattle.calls.proofs.Backs.{first_long, ended-unmarked}
+use Rattle.calls.proofs.Resting.{counted_in, rest_granted}
+use Rattle.calls.proofs.Ways.{rest_worked}
+use Rattle.calls.proofs.Helds.{solve-unmarked, solve-refused, solve_ready, solve-rested}
 use Rattle.calls.proofs.cholesky.solve.Goals as goal
 
 pub returns-then-marks-eq0 : goal.returns-then-marks-eq0
@@ -15,104 +14,37 @@ returns-then-marks-eq0 c =
     ended-unmarked g.st (λ (q : Plain). solve_call q g.order.now g.rhs.now g.store.now g.out.now) c.whole.ensures c.solve-t.ensures c.marked.ensures
     ∙ solve-unmarked g.st g.order.now g.rhs.now g.store.now g.out.now c.if-marks-eq0.true
 
-pub returns-then-c-ne0 : goal.returns-then-c-ne0
-returns-then-c-ne0 c =
+pub returns-in-Err : goal.returns-in-Err
+returns-in-Err c =
     let g = c.args in
-    solve-refused g.st g.order.now g.rhs.now g.store.now g.out.now c.if-marks-eq0.false c.check_solve-c.ensures c.if-c-ne0.true
+    solve-refused g.st g.order.now g.rhs.now g.store.now g.out.now _ c.if-marks-eq0.false c.in-Err.ensures
 
-pub store_need-need-requires : goal.store_need-need-requires
-store_need-need-requires c =
-    let g = c.args in
-    let s = min (length g.order.now) (min (length g.rhs.now) (length g.out.now)) in
-    let h = solve_ready g.st g.order.now g.rhs.now g.store.now g.out.now c.if-marks-eq0.false c.check_solve-c.ensures c.if-c-ne0.false in
-    free_few g.st g.store.now s h c.free_count-free.ensures
+pub invariant_of-p : goal.invariant_of-p
+invariant_of-p c = let g = c.args in record { reducible = counted_in (solve_ready g.st g.order.now g.rhs.now g.store.now g.out.now c.if-marks-eq0.false c.in_default.ensures) c.free_count-free.ensures }
 
-pub slice_bounds-bs-end : goal.slice_bounds-bs-end
-slice_bounds-bs-end c =
+pub gather-requires : goal.gather-requires
+gather-requires c =
     let g = c.args in
-    let s = min (length g.order.now) (min (length g.rhs.now) (length g.out.now)) in
-    let h = solve_ready g.st g.order.now g.rhs.now g.store.now g.out.now c.if-marks-eq0.false c.check_solve-c.ensures c.if-c-ne0.false in
-    step_fits g.st g.store.now s h c.free_count-free.ensures _ c.room16-bs.ensures
+    let h = solve_ready g.st g.order.now g.rhs.now g.store.now g.out.now c.if-marks-eq0.false c.in_default.ensures in
+    omega (arith, h.each_long)
 
-pub slice_bounds-gather_in-end : goal.slice_bounds-gather_in-end
-slice_bounds-gather_in-end c =
+pub slice_bounds-solve-end : goal.slice_bounds-solve-end
+slice_bounds-solve-end c =
     let g = c.args in
-    let s = min (length g.order.now) (min (length g.rhs.now) (length g.out.now)) in
-    let h = solve_ready g.st g.order.now g.rhs.now g.store.now g.out.now c.if-marks-eq0.false c.check_solve-c.ensures c.if-c-ne0.false in
-    sym (step_long g.st g.store.now s h c.free_count-free.ensures _ c.room16-bs.ensures)
+    let h = solve_ready g.st g.order.now g.rhs.now g.store.now g.out.now c.if-marks-eq0.false c.in_default.ensures in
+    sym (first_long g.st g.store.now _ h c.free_count-free.ensures g.order.now (omega (arith, h.each_long)))
 
-pub gather_in-requires : goal.gather_in-requires
-gather_in-requires c =
+pub solve-answer-requires : goal.solve-answer-requires
+solve-answer-requires c =
     let g = c.args in
-    let s = min (length g.order.now) (min (length g.rhs.now) (length g.out.now)) in
-    let h = solve_ready g.st g.order.now g.rhs.now g.store.now g.out.now c.if-marks-eq0.false c.check_solve-c.ensures c.if-c-ne0.false in
-    record { n_in_bounds = omega (arith, h.each_long); w_len = step_long g.st g.store.now s h c.free_count-free.ensures _ c.room16-bs.ensures ∙ c.free_count-free.ensures }
+    let h = solve_ready g.st g.order.now g.rhs.now g.store.now g.out.now c.if-marks-eq0.false c.in_default.ensures in
+    omega (arith, h.each_long)
 
-pub slice_bounds-solve_frozen-end : goal.slice_bounds-solve_frozen-end
-slice_bounds-solve_frozen-end c =
-    let g = c.args in
-    let s = min (length g.order.now) (min (length g.rhs.now) (length g.out.now)) in
-    let h = solve_ready g.st g.order.now g.rhs.now g.store.now g.out.now c.if-marks-eq0.false c.check_solve-c.ensures c.if-c-ne0.false in
-    sym (first_long g.st g.store.now s h c.free_count-free.ensures g.order.now (omega (arith, h.each_long)))
-
-pub slice_bounds-bs-end-2 : goal.slice_bounds-bs-end-2
-slice_bounds-bs-end-2 c =
-    let g = c.args in
-    let s = min (length g.order.now) (min (length g.rhs.now) (length g.out.now)) in
-    let h = solve_ready g.st g.order.now g.rhs.now g.store.now g.out.now c.if-marks-eq0.false c.check_solve-c.ensures c.if-c-ne0.false in
-    put-fits _ _ c.gather_in.new.w (step_fits g.st g.store.now s h c.free_count-free.ensures _ c.room16-bs.ensures) c.gather_in.auto.w
-
-pub slice_bounds-solve_frozen-end-2 : goal.slice_bounds-solve_frozen-end-2
-slice_bounds-solve_frozen-end-2 c =
-    let g = c.args in
-    let s = min (length g.order.now) (min (length g.rhs.now) (length g.out.now)) in
-    let h = solve_ready g.st g.order.now g.rhs.now g.store.now g.out.now c.if-marks-eq0.false c.check_solve-c.ensures c.if-c-ne0.false in
-    sym (length-take-le _ _ (put-fits _ _ c.gather_in.new.w (step_fits g.st g.store.now s h c.free_count-free.ensures _ c.room16-bs.ensures) c.gather_in.auto.w))
-
-pub slice_bounds-small-end : goal.slice_bounds-small-end
-slice_bounds-small-end c =
-    let g = c.args in
-    let s = min (length g.order.now) (min (length g.rhs.now) (length g.out.now)) in
-    let h = solve_ready g.st g.order.now g.rhs.now g.store.now g.out.now c.if-marks-eq0.false c.check_solve-c.ensures c.if-c-ne0.false in
-    small_fits g.st g.store.now s h c.free_count-free.ensures _ c.store_need-need.ensures c.room320-small.ensures
-
-pub slice_bounds-solve_frozen-end-3 : goal.slice_bounds-solve_frozen-end-3
-slice_bounds-solve_frozen-end-3 c =
-    let g = c.args in
-    let s = min (length g.order.now) (min (length g.rhs.now) (length g.out.now)) in
-    let h = solve_ready g.st g.order.now g.rhs.now g.store.now g.out.now c.if-marks-eq0.false c.check_solve-c.ensures c.if-c-ne0.false in
-    sym (small_long g.st g.store.now s h c.free_count-free.ensures _ c.store_need-need.ensures c.room320-small.ensures)
-
-pub slice_bounds-x-end : goal.slice_bounds-x-end
-slice_bounds-x-end c =
-    let g = c.args in
-    let s = min (length g.order.now) (min (length g.rhs.now) (length g.out.now)) in
-    let h = solve_ready g.st g.order.now g.rhs.now g.store.now g.out.now c.if-marks-eq0.false c.check_solve-c.ensures c.if-c-ne0.false in
-    step_fits g.st g.store.now s h c.free_count-free.ensures _ c.room16-x.ensures
-
-pub slice_bounds-solve_frozen-end-4 : goal.slice_bounds-solve_frozen-end-4
-slice_bounds-solve_frozen-end-4 c =
-    let g = c.args in
-    let s = min (length g.order.now) (min (length g.rhs.now) (length g.out.now)) in
-    let h = solve_ready g.st g.order.now g.rhs.now g.store.now g.out.now c.if-marks-eq0.false c.check_solve-c.ensures c.if-c-ne0.false in
-    sym (step_long g.st g.store.now s h c.free_count-free.ensures _ c.room16-x.ensures)
-
-pub solve_frozen-answer-requires : goal.solve_frozen-answer-requires
-solve_frozen-answer-requires c =
-    let g = c.args in
-    let s = min (length g.order.now) (min (length g.rhs.now) (length g.out.now)) in
-    let h = solve_ready g.st g.order.now g.rhs.now g.store.now g.out.now c.if-marks-eq0.false c.check_solve-c.ensures c.if-c-ne0.false in
-    let small = small_long g.st g.store.now s h c.free_count-free.ensures _ c.store_need-need.ensures c.room320-small.ensures ∙ c.store_need-need.ensures in
-    record { reducible = ready_reducible g.st g.store.now s h c.free_count-free.ensures; small_len = (small, step_long g.st g.store.now s h c.free_count-free.ensures _ c.room16-x.ensures, omega (arith, h.each_long)) }
-
-pub rest_in-requires : goal.rest_in-requires
-rest_in-requires c =
-    let g = c.args in
-    let s = min (length g.order.now) (min (length g.rhs.now) (length g.out.now)) in
-    let h = solve_ready g.st g.order.now g.rhs.now g.store.now g.out.now c.if-marks-eq0.false c.check_solve-c.ensures c.if-c-ne0.false in
-    ready_reducible g.st g.store.now s h c.free_count-free.ensures
+pub unwrap-requires : goal.unwrap-requires
+unwrap-requires c = let g = c.args in rest_granted (solve_ready g.st g.order.now g.rhs.now g.store.now g.out.now c.if-marks-eq0.false c.in_default.ensures) c.rest.result c.rest.ensures
 
 pub returns : goal.returns
 returns c =
     let g = c.args in
-    solve-rested g.st g.order.now g.rhs.now g.store.now g.out.now c.if-marks-eq0.false c.check_solve-c.ensures c.if-c-ne0.false _ _ c.gather_in.new.w c.solve_frozen-answer.ensures c.rest_in.ensures c.free_count-free.ensures c.room16-bs.ensures c.room16-x.ensures c.gather_in.auto.w c.gather_in.ensures
+    let r = solve_ready g.st g.order.now g.rhs.now g.store.now g.out.now c.if-marks-eq0.false c.in_default.ensures in
+    solve-rested g.st g.order.now g.rhs.now g.store.now g.out.now c.if-marks-eq0.false c.in_default.ensures c.free_count-free.ensures c.gather.ensures c.solve-answer.ensures (rest_worked r.reducible _ _ c.rest.ensures).1

@@ -1,4 +1,4 @@
-use Prim.Native.Nat.{◌-◌, ◌≤◌}
+use Prim.Native.Nat.{◌-◌}
 use mathlib.Core.Path.{◌≡◌}
 use mathlib.Core.List.{◌++◌}
 use lib.ListN.{length, take}
@@ -7,7 +7,4 @@ use Rattle.leaves.proofs.Overs.{over}
 use Rattle.calls.proofs.pivoted_qr.count_on.Given as goal
 
 abbrev pub invariant-loop-k : goal.invariant-loop-k
-invariant-loop-k l = (l.free ≤ l.k) × (l.k ≤ length l.order) × (length l.order ≡ length l.initial.order) × (l.order ≡ over l.k (take l.free l.initial.order ++ count_from (length l.initial.order - l.free) l.free) l.initial.order)
-
-abbrev pub decreases-loop-k : goal.decreases-loop-k
-decreases-loop-k l = length l.order - l.k
+invariant-loop-k l = l.order ≡ over l.k (take l.free l.initial.order ++ count_from (length l.initial.order - l.free) l.free) l.initial.order

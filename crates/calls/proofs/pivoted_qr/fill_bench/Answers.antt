@@ -16,10 +16,7 @@ gather_columns-requires c =
     let l = c.requires.free_in_bounds in
     record { n_value = (r.inside, r.jacobian_long); bench_len = length-take-le (g.m * g.free) g.bench.now (omega arith) ∙ ap (λ (k : ℕ). g.m * k) r.counted }
 
-pub slice_bounds-copy-end : goal.slice_bounds-copy-end
-slice_bounds-copy-end c = sym (length-take-le _ _ (search rules))
-
 pub returns : goal.returns
 returns c =
     let g = c.args in
-    bench_filled g.m g.n g.marks g.free g.jacobian.now g.residuals.now c.requires.factorable g.bench.now _ _ c.requires.free_in_bounds c.gather_columns.ensures c.copy.ensures
+    bench_filled g.m g.n g.marks g.free g.jacobian.now g.residuals.now c.requires.factorable g.bench.now _ _ c.requires.free_in_bounds c.gather_columns.ensures c.copy_from_slice.ensures.after

@@ -2,31 +2,35 @@ use mathlib.Core.Path.{sym, ap, ◌∙◌}
 use mathlib.Core.Bool.{not}
 use lib.Ieee.{of_bits}
 use lib.Seq.{length-take-le}
-use Rattle.calls.proofs.Searches.{first_met, diag_long, diag_met, radius_met, lambda_met, above_met, below_met, zero_met, free_met}
+use Rattle.calls.proofs.Passed.{first_failed}
+use Rattle.calls.proofs.Searches.{first, numbers, tested, diag_long, diag_met, radius_met, lambda_met, above_met, below_met, zero_met, free_met}
 use Rattle.calls.proofs.trust_region.check_search.Goals as goal
 
-pub returns-then-c-ne0 : goal.returns-then-c-ne0
-returns-then-c-ne0 c =
+pub returns-in_err-ordered : goal.returns-in_err-ordered
+returns-in_err-ordered c =
     let g = c.args in
-    first_met g.st g.store g.order.now g.diag.now g.radius g.lambda g.out c.least.ensures c.ordered-c.ensures c.if-c-ne0.true
+    let m = c.least.ensures in
+    let ts = first g.st g.store g.order.now g.diag.now g.radius g.lambda g.out m in
+    let us = numbers g.st g.store g.order.now g.diag.now g.radius g.lambda g.out m in
+    first_failed ts us _ _ c.from_residual.ensures.1 (tested g.st g.store g.order.now g.diag.now g.radius g.lambda g.out m c.in_err-ordered.ensures)
 
 pub slice_bounds-all_finite-end : goal.slice_bounds-all_finite-end
 slice_bounds-all_finite-end c =
     let g = c.args in
-    sym (length-take-le _ _ (diag_long g.st g.store g.order.now g.diag.now g.radius g.lambda g.out c.least.ensures c.ordered-c.ensures c.if-c-ne0.false))
+    sym (length-take-le _ _ (diag_long g.st g.store g.order.now g.diag.now g.radius g.lambda g.out c.least.ensures c.in_ok-ordered.ensures))
 
 pub returns-then-not-all_finite : goal.returns-then-not-all_finite
 returns-then-not-all_finite c =
     let g = c.args in
     let d = ap not (sym c.all_finite.ensures) ∙ (ap not c.if-not-all_finite.true) in
-    diag_met g.st g.store g.order.now g.diag.now g.radius g.lambda g.out c.least.ensures c.ordered-c.ensures c.if-c-ne0.false d
+    diag_met g.st g.store g.order.now g.diag.now g.radius g.lambda g.out c.least.ensures c.in_ok-ordered.ensures d
 
 pub returns-then-not-is_finite : goal.returns-then-not-is_finite
 returns-then-not-is_finite c =
     let g = c.args in
     let d = ap not (sym c.all_finite.ensures) ∙ (ap not c.if-not-all_finite.false) in
     let r = ap not (sym c.is_finite.ensures) ∙ (ap not c.if-not-is_finite.true) in
-    radius_met g.st g.store g.order.now g.diag.now g.radius g.lambda g.out c.least.ensures c.ordered-c.ensures c.if-c-ne0.false d r
+    radius_met g.st g.store g.order.now g.diag.now g.radius g.lambda g.out c.least.ensures c.in_ok-ordered.ensures d r
 
 pub returns-then-not-is_finite-2 : goal.returns-then-not-is_finite-2
 returns-then-not-is_finite-2 c =
@@ -34,7 +38,7 @@ returns-then-not-is_finite-2 c =
     let d = ap not (sym c.all_finite.ensures) ∙ (ap not c.if-not-all_finite.false) in
     let r = ap not (sym c.is_finite.ensures) ∙ (ap not c.if-not-is_finite.false) in
     let l = ap not (sym c.is_finite-2.ensures) ∙ (ap not c.if-not-is_finite-2.true) in
-    lambda_met g.st g.store g.order.now g.diag.now g.radius g.lambda g.out c.least.ensures c.ordered-c.ensures c.if-c-ne0.false d r l
+    lambda_met g.st g.store g.order.now g.diag.now g.radius g.lambda g.out c.least.ensures c.in_ok-ordered.ensures d r l
 
 pub returns-then-radius : goal.returns-then-radius
 unfolding of_bits
@@ -43,7 +47,7 @@ returns-then-radius c =
     let d = ap not (sym c.all_finite.ensures) ∙ (ap not c.if-not-all_finite.false) in
     let r = ap not (sym c.is_finite.ensures) ∙ (ap not c.if-not-is_finite.false) in
     let l = ap not (sym c.is_finite-2.ensures) ∙ (ap not c.if-not-is_finite-2.false) in
-    above_met g.st g.store g.order.now g.diag.now g.radius g.lambda g.out c.least.ensures c.ordered-c.ensures c.if-c-ne0.false d r l c.if-radius.true
+    above_met g.st g.store g.order.now g.diag.now g.radius g.lambda g.out c.least.ensures c.in_ok-ordered.ensures d r l c.if-radius.true
 
 pub returns-then-lambda : goal.returns-then-lambda
 unfolding of_bits
@@ -52,12 +56,12 @@ returns-then-lambda c =
     let d = ap not (sym c.all_finite.ensures) ∙ (ap not c.if-not-all_finite.false) in
     let r = ap not (sym c.is_finite.ensures) ∙ (ap not c.if-not-is_finite.false) in
     let l = ap not (sym c.is_finite-2.ensures) ∙ (ap not c.if-not-is_finite-2.false) in
-    below_met g.st g.store g.order.now g.diag.now g.radius g.lambda g.out c.least.ensures c.ordered-c.ensures c.if-c-ne0.false d r l c.if-radius.false c.if-lambda.true
+    below_met g.st g.store g.order.now g.diag.now g.radius g.lambda g.out c.least.ensures c.in_ok-ordered.ensures d r l c.if-radius.false c.if-lambda.true
 
 pub slice_bounds-none_zero-end : goal.slice_bounds-none_zero-end
 slice_bounds-none_zero-end c =
     let g = c.args in
-    sym (length-take-le _ _ (diag_long g.st g.store g.order.now g.diag.now g.radius g.lambda g.out c.least.ensures c.ordered-c.ensures c.if-c-ne0.false))
+    sym (length-take-le _ _ (diag_long g.st g.store g.order.now g.diag.now g.radius g.lambda g.out c.least.ensures c.in_ok-ordered.ensures))
 
 pub returns-then-not-none_zero : goal.returns-then-not-none_zero
 unfolding of_bits
@@ -67,7 +71,7 @@ returns-then-not-none_zero c =
     let r = ap not (sym c.is_finite.ensures) ∙ (ap not c.if-not-is_finite.false) in
     let l = ap not (sym c.is_finite-2.ensures) ∙ (ap not c.if-not-is_finite-2.false) in
     let n = ap not (sym c.none_zero.ensures) ∙ (ap not c.if-not-none_zero.true) in
-    zero_met g.st g.store g.order.now g.diag.now g.radius g.lambda g.out c.least.ensures c.ordered-c.ensures c.if-c-ne0.false d r l c.if-radius.false c.if-lambda.false n
+    zero_met g.st g.store g.order.now g.diag.now g.radius g.lambda g.out c.least.ensures c.in_ok-ordered.ensures d r l c.if-radius.false c.if-lambda.false n
 
 pub returns : goal.returns
 unfolding of_bits
@@ -77,4 +81,4 @@ returns c =
     let r = ap not (sym c.is_finite.ensures) ∙ (ap not c.if-not-is_finite.false) in
     let l = ap not (sym c.is_finite-2.ensures) ∙ (ap not c.if-not-is_finite-2.false) in
     let n = ap not (sym c.none_zero.ensures) ∙ (ap not c.if-not-none_zero.false) in
-    free_met g.st g.store g.order.now g.diag.now g.radius g.lambda g.out c.least.ensures c.ordered-c.ensures c.if-c-ne0.false d r l c.if-radius.false c.if-lambda.false n c.some_free.ensures
+    free_met g.st g.store g.order.now g.diag.now g.radius g.lambda g.out c.least.ensures c.in_ok-ordered.ensures d r l c.if-radius.false c.if-lambda.false n c.some_free.ensures

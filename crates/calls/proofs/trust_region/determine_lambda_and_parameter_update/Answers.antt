@@ -1,10 +1,12 @@
-use mathlib.Core.Path.{sym, ◌∙◌}
-use lib.ListN.{drop}
+use mathlib.Core.Path.{sym, ap}
+use Rattle.std.specs.Prelude.{is_ok}
 use Rattle.factor.specs.Outcome.{Ended}
 use Rattle.factor.specs.declared.state.State.{State as Plain}
 use Rattle.search.specs.Search.{Flagged, search_call}
-use Rattle.calls.proofs.Backs.{ended-unmarked, ready_reducible, free_few, first_long, small_fits, small_long, step_fits, step_long, gathered}
-use Rattle.calls.proofs.Searches.{front_fits, front_long, search-unmarked, search-refused, search-lent, search-worked}
+use Rattle.calls.proofs.Ways.{empty-worked}
+use Rattle.calls.proofs.Resting.{counted_in}
+use Rattle.calls.proofs.Backs.{ended-unmarked, first_long, with-store}
+use Rattle.calls.proofs.Searches.{search-unmarked, search-refused, search-lent, search-worked}
 use Rattle.calls.proofs.trust_region.determine_lambda_and_parameter_update.Goals as goal
 
 pub returns-then-marks-eq0 : goal.returns-then-marks-eq0
@@ -14,91 +16,38 @@ returns-then-marks-eq0 c =
     let h = ended-unmarked g.st call c.whole.ensures c.determine_lambda_and_parameter_update-t.ensures c.marked.ensures in
     search-unmarked g.st g.order.now g.diag.now g.radius g.lambda g.store.now g.out.now c.if-marks-eq0.true h
 
-pub returns-then-c-ne0 : goal.returns-then-c-ne0
-returns-then-c-ne0 c =
+pub returns-in-Err : goal.returns-in-Err
+returns-in-Err c =
     let g = c.args in
-    search-refused g.st g.order.now g.diag.now g.radius g.lambda g.store.now g.out.now c.check_search-c.ensures c.if-marks-eq0.false c.if-c-ne0.true
+    search-refused g.st g.order.now g.diag.now g.radius g.lambda g.store.now g.out.now _ c.if-marks-eq0.false c.in-Err.ensures
 
-pub store_need-need-requires : goal.store_need-need-requires
-store_need-need-requires c =
+pub invariant_of-p : goal.invariant_of-p
+invariant_of-p c =
     let g = c.args in
-    let l = search-lent g.st g.order.now g.diag.now g.radius g.lambda g.store.now g.out.now c.check_search-c.ensures c.if-c-ne0.false c.free_count-free.ensures in
-    free_few g.st g.store.now _ l.ready l.counted
+    let l = search-lent g.st g.order.now g.diag.now g.radius g.lambda g.store.now g.out.now c.in_default.ensures c.free_count-free.ensures in
+    record { reducible = counted_in l.ready l.counted }
 
-pub slice_bounds-ds-end : goal.slice_bounds-ds-end
-slice_bounds-ds-end c =
-    let g = c.args in
-    let l = search-lent g.st g.order.now g.diag.now g.radius g.lambda g.store.now g.out.now c.check_search-c.ensures c.if-c-ne0.false c.free_count-free.ensures in
-    step_fits g.st g.store.now _ l.ready l.counted _ c.room16-ds.ensures
+pub gather-requires : goal.gather-requires
+gather-requires c = let g = c.args in (search-lent g.st g.order.now g.diag.now g.radius g.lambda g.store.now g.out.now c.in_default.ensures c.free_count-free.ensures).diag_fits
 
-pub slice_bounds-gather_in-end : goal.slice_bounds-gather_in-end
-slice_bounds-gather_in-end c =
+pub slice_bounds-determine_lambda_and_parameter_update-end : goal.slice_bounds-determine_lambda_and_parameter_update-end
+slice_bounds-determine_lambda_and_parameter_update-end c =
     let g = c.args in
-    let l = search-lent g.st g.order.now g.diag.now g.radius g.lambda g.store.now g.out.now c.check_search-c.ensures c.if-c-ne0.false c.free_count-free.ensures in
-    sym (step_long g.st g.store.now _ l.ready l.counted _ c.room16-ds.ensures)
-
-pub gather_in-requires : goal.gather_in-requires
-gather_in-requires c =
-    let g = c.args in
-    let l = search-lent g.st g.order.now g.diag.now g.radius g.lambda g.store.now g.out.now c.check_search-c.ensures c.if-c-ne0.false c.free_count-free.ensures in
-    record { n_in_bounds = l.diag_fits; w_len = step_long g.st g.store.now _ l.ready l.counted _ c.room16-ds.ensures ∙ l.counted }
-
-pub slice_bounds-search_frozen-end : goal.slice_bounds-search_frozen-end
-slice_bounds-search_frozen-end c =
-    let g = c.args in
-    let l = search-lent g.st g.order.now g.diag.now g.radius g.lambda g.store.now g.out.now c.check_search-c.ensures c.if-c-ne0.false c.free_count-free.ensures in
+    let l = search-lent g.st g.order.now g.diag.now g.radius g.lambda g.store.now g.out.now c.in_default.ensures c.free_count-free.ensures in
     sym (first_long g.st g.store.now _ l.ready l.counted g.order.now l.order_fits)
 
-pub slice_bounds-ds-end-2 : goal.slice_bounds-ds-end-2
-slice_bounds-ds-end-2 c =
-    let g = c.args in
-    let l = search-lent g.st g.order.now g.diag.now g.radius g.lambda g.store.now g.out.now c.check_search-c.ensures c.if-c-ne0.false c.free_count-free.ensures in
-    let free = c.free_count-free.result in
-    front_fits c.gather_in.new.w (drop free c.room16-ds.result) (c.gather_in.auto.w ∙ step_long g.st g.store.now _ l.ready l.counted _ c.room16-ds.ensures)
+pub determine_lambda_and_parameter_update-told-requires : goal.determine_lambda_and_parameter_update-told-requires
+determine_lambda_and_parameter_update-told-requires c = let g = c.args in (search-lent g.st g.order.now g.diag.now g.radius g.lambda g.store.now g.out.now c.in_default.ensures c.free_count-free.ensures).out_fits
 
-pub slice_bounds-search_frozen-end-2 : goal.slice_bounds-search_frozen-end-2
-slice_bounds-search_frozen-end-2 c =
+pub unwrap-requires : goal.unwrap-requires
+unwrap-requires c =
     let g = c.args in
-    let l = search-lent g.st g.order.now g.diag.now g.radius g.lambda g.store.now g.out.now c.check_search-c.ensures c.if-c-ne0.false c.free_count-free.ensures in
-    let free = c.free_count-free.result in
-    sym (front_long c.gather_in.new.w (drop free c.room16-ds.result) (c.gather_in.auto.w ∙ step_long g.st g.store.now _ l.ready l.counted _ c.room16-ds.ensures))
-
-pub slice_bounds-small-end : goal.slice_bounds-small-end
-slice_bounds-small-end c =
-    let g = c.args in
-    let l = search-lent g.st g.order.now g.diag.now g.radius g.lambda g.store.now g.out.now c.check_search-c.ensures c.if-c-ne0.false c.free_count-free.ensures in
-    small_fits g.st g.store.now _ l.ready l.counted _ c.store_need-need.ensures c.room320-small.ensures
-
-pub slice_bounds-search_frozen-end-3 : goal.slice_bounds-search_frozen-end-3
-slice_bounds-search_frozen-end-3 c =
-    let g = c.args in
-    let l = search-lent g.st g.order.now g.diag.now g.radius g.lambda g.store.now g.out.now c.check_search-c.ensures c.if-c-ne0.false c.free_count-free.ensures in
-    sym (small_long g.st g.store.now _ l.ready l.counted _ c.store_need-need.ensures c.room320-small.ensures)
-
-pub slice_bounds-x-end : goal.slice_bounds-x-end
-slice_bounds-x-end c =
-    let g = c.args in
-    let l = search-lent g.st g.order.now g.diag.now g.radius g.lambda g.store.now g.out.now c.check_search-c.ensures c.if-c-ne0.false c.free_count-free.ensures in
-    step_fits g.st g.store.now _ l.ready l.counted _ c.room16-x.ensures
-
-pub slice_bounds-search_frozen-end-4 : goal.slice_bounds-search_frozen-end-4
-slice_bounds-search_frozen-end-4 c =
-    let g = c.args in
-    let l = search-lent g.st g.order.now g.diag.now g.radius g.lambda g.store.now g.out.now c.check_search-c.ensures c.if-c-ne0.false c.free_count-free.ensures in
-    sym (step_long g.st g.store.now _ l.ready l.counted _ c.room16-x.ensures)
-
-pub search_frozen-requires : goal.search_frozen-requires
-search_frozen-requires c =
-    let g = c.args in
-    let l = search-lent g.st g.order.now g.diag.now g.radius g.lambda g.store.now g.out.now c.check_search-c.ensures c.if-c-ne0.false c.free_count-free.ensures in
-    let need = c.store_need-need.ensures in
-    let small = small_long g.st g.store.now _ l.ready l.counted _ need c.room320-small.ensures ∙ need in
-    record { reducible = ready_reducible g.st g.store.now _ l.ready l.counted; small_len = (small, step_long g.st g.store.now _ l.ready l.counted _ c.room16-x.ensures, l.out_fits) }
+    let l = search-lent g.st g.order.now g.diag.now g.radius g.lambda g.store.now g.out.now c.in_default.ensures c.free_count-free.ensures in
+    ap is_ok (empty-worked l.ready.reducible _ _ c.empty.ensures).0
 
 pub returns : goal.returns
 returns c =
     let g = c.args in
-    let l = search-lent g.st g.order.now g.diag.now g.radius g.lambda g.store.now g.out.now c.check_search-c.ensures c.if-c-ne0.false c.free_count-free.ensures in
-    let w = c.gather_in in
-    let ds = gathered g.st g.store.now _ l.ready l.counted _ c.room16-ds.ensures w.auto.w w.ensures in
-    search-worked g.st g.order.now g.diag.now g.radius g.lambda g.store.now g.out.now c.check_search-c.ensures c.if-c-ne0.false l.counted c.if-marks-eq0.false _ _ ds c.room16-x.ensures c.search_frozen.ensures
+    let l = search-lent g.st g.order.now g.diag.now g.radius g.lambda g.store.now g.out.now c.in_default.ensures c.free_count-free.ensures in
+    let h = with-store (empty-worked l.ready.reducible _ _ c.empty.ensures).1 c.determine_lambda_and_parameter_update-told.ensures in
+    search-worked g.st g.order.now g.diag.now g.radius g.lambda g.store.now g.out.now c.in_default.ensures l.counted c.if-marks-eq0.false c.gather.ensures h

@@ -3,24 +3,25 @@ use mathlib.Core.Bool.{not}
 use mathlib.Core.List.{[], ◌∷◌}
 use lib.ListN.{length}
 use lib.Seq.{length-take-le}
-use Rattle.leaves.proofs.Refusals.{stopped, test_met, went_to, past}
+use Rattle.leaves.proofs.Refusals.{test_met, went_to, past}
 use Rattle.factor.specs.Tests.{finite_test}
 use Rattle.calls.specs.State.{whole}
 use Rattle.calls.specs.Tests.{marked_room_tests, free_test}
 use Rattle.calls.proofs.Measured.{room_long}
+use Rattle.calls.proofs.Passed.{first_failed}
 use Rattle.calls.proofs.update_diag.check_later.Goals as goal
 
-pub returns-then-c-ne0 : goal.returns-then-c-ne0
-returns-then-c-ne0 c =
+pub returns-in_err-room : goal.returns-in_err-room
+returns-in_err-room c =
     let g = c.args in
     let ts = marked_room_tests g.st g.store (length g.diag.now) in
     let t = finite_test (whole g.st) g.diag.now in
-    sym (stopped ts (t ∷ free_test g.st ∷ []) _ c.room-c.ensures c.if-c-ne0.true)
+    first_failed ts (t ∷ free_test g.st ∷ []) _ _ c.from_residual.ensures.1 c.in_err-room.ensures
 
 pub slice_bounds-all_finite-end : goal.slice_bounds-all_finite-end
 slice_bounds-all_finite-end c =
     let g = c.args in
-    sym (length-take-le g.st.n g.diag.now (room_long g.st g.store (length g.diag.now) [] refl (sym c.room-c.ensures ∙ c.if-c-ne0.false)))
+    sym (length-take-le g.st.n g.diag.now (room_long g.st g.store (length g.diag.now) [] refl (sym c.in_ok-room.ensures)))
 
 pub returns-then-not-all_finite : goal.returns-then-not-all_finite
 returns-then-not-all_finite c =
@@ -28,7 +29,7 @@ returns-then-not-all_finite c =
     let ts = marked_room_tests g.st g.store (length g.diag.now) in
     let t = finite_test (whole g.st) g.diag.now in
     let us = free_test g.st ∷ [] in
-    went_to ts (t ∷ us) refl c.room-c.ensures c.if-c-ne0.false (sym (test_met t us (ap not (sym c.all_finite.ensures) ∙ (ap not c.if-not-all_finite.true))))
+    went_to ts (t ∷ us) refl c.in_ok-room.ensures refl (sym (test_met t us (ap not (sym c.all_finite.ensures) ∙ (ap not c.if-not-all_finite.true))))
 
 pub returns : goal.returns
 returns c =
@@ -36,4 +37,4 @@ returns c =
     let ts = marked_room_tests g.st g.store (length g.diag.now) in
     let t = finite_test (whole g.st) g.diag.now in
     let us = free_test g.st ∷ [] in
-    went_to ts (t ∷ us) refl c.room-c.ensures c.if-c-ne0.false (past t us (ap not (sym c.all_finite.ensures) ∙ (ap not c.if-not-all_finite.false)) c.some_free.ensures)
+    went_to ts (t ∷ us) refl c.in_ok-room.ensures refl (past t us (ap not (sym c.all_finite.ensures) ∙ (ap not c.if-not-all_finite.false)) c.some_free.ensures)

@@ -1,15 +1,16 @@
-use mathlib.Core.Path.{refl, sym}
+use mathlib.Core.Path.{refl}
 use mathlib.Core.List.{[], ◌∷◌}
-use Rattle.leaves.proofs.Refusals.{stopped, went_to}
+use Rattle.leaves.proofs.Refusals.{went_to}
 use Rattle.calls.specs.Tests.{marked_room_tests, free_test}
+use Rattle.calls.proofs.Passed.{first_failed}
 use Rattle.calls.proofs.update_diag.check_unread.Goals as goal
 
-pub returns-then-c-ne0 : goal.returns-then-c-ne0
-returns-then-c-ne0 c =
+pub returns-in_err-room : goal.returns-in_err-room
+returns-in_err-room c =
     let g = c.args in
-    sym (stopped (marked_room_tests g.st g.store g.diag) (free_test g.st ∷ []) _ c.room-c.ensures c.if-c-ne0.true)
+    first_failed (marked_room_tests g.st g.store g.diag) (free_test g.st ∷ []) _ _ c.from_residual.ensures.1 c.in_err-room.ensures
 
 pub returns : goal.returns
 returns c =
     let g = c.args in
-    went_to (marked_room_tests g.st g.store g.diag) (free_test g.st ∷ []) refl c.room-c.ensures c.if-c-ne0.false c.some_free.ensures
+    went_to (marked_room_tests g.st g.store g.diag) (free_test g.st ∷ []) refl c.in_ok-room.ensures refl c.some_free.ensures

@@ -1,7 +1,6 @@
-use Prim.Native.Nat.{ℕ, ◌-◌, ◌≤◌}
+use Prim.Native.Nat.{ℕ}
 use mathlib.Core.Path.{◌≡◌}
 use mathlib.Core.List.{List}
-use lib.ListN.{length}
 use lib.Ieee.{Float}
 use Rattle.eliminate.specs.declared.eliminate.Rotation.{Rotation}
 use Rattle.eliminate.specs.Eliminate.{turned_all, left_all}
@@ -10,15 +9,8 @@ use Rattle.eliminate.proofs.eliminate.turn_rest.Given as goal
 
 -- both rows done up to place i
 pub record Turning (g : Rotation) (col₀ l₀ col l : List Float) (i : ℕ) : Type 0 where
-  pub same : length col₀ ≡ length l₀
-  pub short : i ≤ length col₀
-  pub col_long : length col ≡ length col₀
-  pub l_long : length l ≡ length l₀
   pub col_done : col ≡ front i (turned_all g col₀ l₀) col₀
   pub l_done : l ≡ front i (left_all g col₀ l₀) l₀
 
 abbrev pub invariant-loop-i : goal.invariant-loop-i
 invariant-loop-i l = Turning (record { sin = l.sin; cos = l.cos }) l.initial.col l.initial.l l.col l.l l.i
-
-abbrev pub decreases-loop-i : goal.decreases-loop-i
-decreases-loop-i l = length l.initial.col - l.i

@@ -4,26 +4,24 @@ use mathlib.Core.List.{[], ◌∷◌}
 use Rattle.leaves.specs.Tests.{first_of}
 use Rattle.factor.specs.Tests.{held_test, solve_tests}
 use Rattle.leaves.proofs.Refusals.{stopped}
-use Rattle.factor.proofs.Holds.{further_met, further_passed}
+use Rattle.leaves.proofs.Replies.{refusal_number-some}
+use Rattle.factor.proofs.Answers.{handed_on}
+use Rattle.factor.proofs.Holds.{held_too}
+use Rattle.factor.proofs.Passed.{solve_passed}
 use Rattle.factor.proofs.cholesky.check_held.Goals as goal
 
-pub returns-then-c-ne0 : goal.returns-then-c-ne0
-returns-then-c-ne0 c =
+pub returns-in_err-ordered : goal.returns-in_err-ordered
+returns-in_err-ordered c =
     let g = c.args in
     let ts = solve_tests g.st g.store g.order.now (min g.rhs g.out) in
-    let e = c.ordered-c.ensures ∙ ap (λ (s : ℕ). first_of (solve_tests g.st g.store g.order.now s)) c.least.ensures in
-    sym (stopped ts (held_test g.st ∷ []) _ e c.if-c-ne0.true)
+    let e = c.in_err-ordered.ensures ∙ ap (λ (s : ℕ). first_of (solve_tests g.st g.store g.order.now s)) c.least.ensures in
+    rw (handed_on _ _ c.from_residual.ensures.1) (record { value = tt; failed = sym (stopped ts (held_test g.st ∷ []) _ e (refusal_number-some _)) })
 
-pub returns-then-is_nothing : goal.returns-then-is_nothing
-returns-then-is_nothing c =
+pub returns : goal.returns
+returns c =
     let g = c.args in
-    let ts = solve_tests g.st g.store g.order.now (min g.rhs g.out) in
-    let e = c.ordered-c.ensures ∙ ap (λ (s : ℕ). first_of (solve_tests g.st g.store g.order.now s)) c.least.ensures in
-    further_met ts (held_test g.st) refl e c.if-c-ne0.false (sym c.is_nothing.ensures ∙ c.if-is_nothing.true)
-
-pub returns-else-is_nothing : goal.returns-else-is_nothing
-returns-else-is_nothing c =
-    let g = c.args in
-    let ts = solve_tests g.st g.store g.order.now (min g.rhs g.out) in
-    let e = c.ordered-c.ensures ∙ ap (λ (s : ℕ). first_of (solve_tests g.st g.store g.order.now s)) c.least.ensures in
-    further_passed ts (held_test g.st) refl e c.if-c-ne0.false (sym c.is_nothing.ensures ∙ c.if-is_nothing.false)
+    let k = min g.rhs g.out in
+    let e = c.in_ok-ordered.ensures ∙ ap (λ (s : ℕ). first_of (solve_tests g.st g.store g.order.now s)) c.least.ensures in
+    let p = (solve_passed g.st g.store g.order.now k (sym e)).room.filled in
+    let x = c.lower_held.ensures in
+    record { value = x.value; failed = held_too g.st.held p (solve_tests g.st g.store g.order.now k) (held_test g.st ∷ []) refl e x.failed }

@@ -1,24 +1,23 @@
-use mathlib.Core.Path.{refl, sym, ◌∙◌}
+use mathlib.Core.Path.{refl, sym}
 use mathlib.Core.List.{[], ◌∷◌}
 use Rattle.factor.specs.Tests.{room_tests, held_test}
 use Rattle.leaves.proofs.Refusals.{stopped}
-use Rattle.factor.proofs.Holds.{further_met, further_passed}
+use Rattle.leaves.proofs.Replies.{refusal_number-some}
+use Rattle.factor.proofs.Answers.{handed_on}
+use Rattle.factor.proofs.Holds.{held_too}
+use Rattle.factor.proofs.Passed.{room_passed}
 use Rattle.factor.proofs.cholesky.check_mul.Goals as goal
 
-pub returns-then-c-ne0 : goal.returns-then-c-ne0
-returns-then-c-ne0 c =
+pub returns-in_err-room : goal.returns-in_err-room
+returns-in_err-room c =
     let g = c.args in
     let ts = room_tests g.st g.store g.out in
-    sym (stopped ts (held_test g.st ∷ []) _ c.room-c.ensures c.if-c-ne0.true)
+    rw (handed_on _ _ c.from_residual.ensures.1) (record { value = tt; failed = sym (stopped ts (held_test g.st ∷ []) _ c.in_err-room.ensures (refusal_number-some _)) })
 
-pub returns-then-is_nothing : goal.returns-then-is_nothing
-returns-then-is_nothing c =
+pub returns : goal.returns
+returns c =
     let g = c.args in
-    let ts = room_tests g.st g.store g.out in
-    further_met ts (held_test g.st) refl c.room-c.ensures c.if-c-ne0.false (sym c.is_nothing.ensures ∙ c.if-is_nothing.true)
-
-pub returns-else-is_nothing : goal.returns-else-is_nothing
-returns-else-is_nothing c =
-    let g = c.args in
-    let ts = room_tests g.st g.store g.out in
-    further_passed ts (held_test g.st) refl c.room-c.ensures c.if-c-ne0.false (sym c.is_nothing.ensures ∙ c.if-is_nothing.false)
+    let e = c.in_ok-room.ensures in
+    let p = (room_passed g.st g.store g.out (sym e)).filled in
+    let x = c.lower_held.ensures in
+    record { value = x.value; failed = held_too g.st.held p (room_tests g.st g.store g.out) (held_test g.st ∷ []) refl e x.failed }

@@ -8,25 +8,23 @@ use lib.Ieee.{of_bits}
 use Rattle.factor.proofs.Stores.{transformed_long, store_laid}
 use Rattle.factor.proofs.factor.lay_store.Goals as goal
 
-pub slice_bounds-lay_out-end-2 : goal.slice_bounds-lay_out-end-2
-slice_bounds-lay_out-end-2 c = simp length-take (omega arith)
-
 pub lay_out-requires : goal.lay_out-requires
-lay_out-requires c = record { benched = search rules; diag_len = search rules; square_len = simp length-take (omega arith) }
+lay_out-requires c = record { diag_len = search rules; square_len = simp length-take (omega arith) }
 
 pub returns : goal.returns
 unfolding of_bits
 returns c =
     let g = c.args in
     let s = g.store.now in
-    let nn = g.n * g.n in
-    let p = nn + g.n in
-    let q = p + g.n in
+    let n = g.bench.n in
+    let nn = n * n in
+    let p = nn + n in
+    let q = p + n in
     let h = c.requires.n_in_bounds in
     let la = c.lay_out.auto.square ∙ length-take-le nn s (omega arith) in
-    let lq = ap length c.take_rhs.ensures ∙ transformed_long g.n _ in
+    let lq = ap length c.take_rhs.ensures ∙ transformed_long n _ in
     record {
-      store_after = store_laid g.n s c.lay_out.new.square c.take_rhs.new.qtb h la lq _ (p - nn) (q + 2 * g.n - q) (omega arith) (omega arith) c.fill.ensures
+      store_after = store_laid n s c.lay_out.new.square c.take_rhs.new.qtb h la lq _ (p - nn) (q + 2 * n - q) (omega arith) (omega arith) c.fill.ensures
           ∙ rw (c.lay_out.ensures, c.take_rhs.ensures);
       n_len = sym (ap length c.lay_out.ensures) ∙ la;
     }

@@ -8,4 +8,4 @@ pub returns : goal.returns
 unfolding of_bits
 returns c =
     let g = c.args in
-    c.mul_onto.ensures ∙ ap (mul_lower g.q.now g.ldiag.now (belows_of g.n g.square.now)) (c.fill.ensures ∙ ap zeros c.requires.out_len)
+    c.mul_onto.ensures ∙ ap (mul_lower g.q.now g.l.ldiag.now (belows_of g.l.square.n g.l.square.cells.now)) (c.fill.ensures ∙ ap zeros c.requires.out_len)

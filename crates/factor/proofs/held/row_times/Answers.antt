@@ -1,15 +1,17 @@
+use mathlib.Core.Path.{ap}
 use native.Mathlib.Omega.{arith}
 use lib.ListN.{length-take, length-drop}
+use Rattle.std.specs.Prelude.{is_ok}
+use Rattle.leaves.proofs.Squares.{column_end}
+use Rattle.leaves.proofs.Folds.{dot_fits}
+use Rattle.factor.proofs.Answers.{unwrapped}
 use Rattle.factor.proofs.held.Helds.{row_law}
 use Rattle.factor.proofs.held.row_times.Goals as goal
 
-pub slice_bounds-dot_of-end : goal.slice_bounds-dot_of-end
-slice_bounds-dot_of-end c = simp length-take (omega arith)
-
-pub dot_of-requires : goal.dot_of-requires
-dot_of-requires c = simp (length-take, length-drop) (omega arith)
+pub unwrap-requires : goal.unwrap-requires
+unwrap-requires c = ap is_ok (dot_fits _ _ _ (simp (length-take, length-drop) (omega (arith, column_end _ _ c.args.square.square c.args.j c.requires.j_lt_n))) c.dot.ensures)
 
 pub returns : goal.returns
 returns c =
     let g = c.args in
-    row_law g.n g.square.now c.requires.square g.j c.requires.j_lt_n.0 g.q.now _ c.dot_of.ensures
+    row_law g.square.n g.square.cells.now c.args.square.square g.j c.requires.j_lt_n g.q.now _ (unwrapped c.unwrap.ensures (dot_fits _ _ _ (simp (length-take, length-drop) (omega (arith, column_end _ _ c.args.square.square c.args.j c.requires.j_lt_n))) c.dot.ensures))

@@ -5,34 +5,38 @@ use Rattle.factor.specs.Room.{load}
 use Rattle.factor.proofs.Lends.{each_long, front_long, store_sized, lent-refused, lent_written}
 use native.Mathlib.Omega.{arith}
 use Rattle.factor.proofs.Layouts.{norms_is}
+use Rattle.factor.proofs.Answers.{handed_on}
 use Rattle.factor.proofs.parts.norms.Goals as goal
 
-pub returns-then-c-ne0 : goal.returns-then-c-ne0
+pub returns-in_err-sizes : goal.returns-in_err-sizes
 unfolding norms_in
-returns-then-c-ne0 c =
+returns-in_err-sizes c =
     let g = c.args in
-    lent-refused 1 g.n g.store.now g.w.now (load g.n g.store.now).norms c.sizes-c.ensures c.if-c-ne0.true
+    rw (handed_on _ _ c.from_residual.ensures.1) (lent-refused 1 g.n g.store.now g.w.now (load g.n g.store.now).norms _ c.in_err-sizes.ensures)
 
 pub slice_bounds-copy_part-end : goal.slice_bounds-copy_part-end
 slice_bounds-copy_part-end c =
     let g = c.args in
-    each_long 1 g.n g.store.now (length g.w.now) c.sizes-c.ensures c.if-c-ne0.false
+    each_long 1 g.n g.store.now (length g.w.now) c.in_ok-sizes.ensures
 
 pub slice_bounds-copy_part-end-2 : goal.slice_bounds-copy_part-end-2
 slice_bounds-copy_part-end-2 c =
     let g = c.args in
-    sym (front_long 1 g.n g.store.now g.w.now c.sizes-c.ensures c.if-c-ne0.false)
+    sym (front_long 1 g.n g.store.now g.w.now c.in_ok-sizes.ensures)
+
+pub invariant_of-copy_part : goal.invariant_of-copy_part
+invariant_of-copy_part c =
+    let g = c.args in
+    record { sized = store_sized 1 g.n g.store.now (length g.w.now) c.in_ok-sizes.ensures }
 
 pub copy_part-requires : goal.copy_part-requires
 copy_part-requires c =
     let g = c.args in
-    let e = c.sizes-c.ensures in
-    let z = c.if-c-ne0.false in
-    record { sized = store_sized 1 g.n g.store.now (length g.w.now) e z; k_bound = (omega arith, front_long 1 g.n g.store.now g.w.now e z) }
+    (omega arith, front_long 1 g.n g.store.now g.w.now c.in_ok-sizes.ensures)
 
 pub returns : goal.returns
 unfolding norms_in
 returns c =
     let g = c.args in
     let x = c.copy_part in
-    lent_written 1 g.n g.store.now g.w.now _ c.sizes-c.ensures c.if-c-ne0.false (x.ensures ∙ norms_is g.n g.store.now) x.auto.w
+    lent_written 1 g.n g.store.now g.w.now _ c.in_ok-sizes.ensures (x.ensures ∙ norms_is g.n g.store.now) x.auto.w

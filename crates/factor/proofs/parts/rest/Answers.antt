@@ -1,29 +1,31 @@
 use mathlib.Core.Path.{sym, ap, ◌∙◌}
 use mathlib.Core.List.{List}
 use Prim.Native.Nat.{ℕ}
-use borrow.Author.Tests.{ne_eqb}
 use lib.Ieee.{Float}
 use Rattle.leaves.specs.Reply.{answered, refused}
-use Rattle.leaves.proofs.Refusals.{call-refused, call-worked}
+use Rattle.leaves.proofs.Refusals.{call-worked}
 use Rattle.factor.specs.Outcome.{read}
 use Rattle.factor.specs.Parts.{rest_in}
-use Rattle.factor.proofs.Lends.{store_sized}
+use borrow.Author.Rules.{rules}
+use Rattle.factor.proofs.Lends.{cols_some, store_sized}
+use Rattle.factor.proofs.Answers.{handed_on, refused_by}
 use Rattle.factor.proofs.parts.rest.Goals as goal
 
-pub returns-then-c-ne0 : goal.returns-then-c-ne0
+pub returns-in_err-sizes : goal.returns-in_err-sizes
 unfolding rest_in
-returns-then-c-ne0 c =
+returns-in_err-sizes c =
     let g = c.args in
-    call-refused _ (λ (k : ℕ). read (refused k) g.store.now) _ _ (sym c.sizes-c.ensures) (ne_eqb _ 0 c.if-c-ne0.true)
+    rw (handed_on _ _ c.from_residual.ensures.1) (refused_by _ (λ (k : ℕ). read (refused k) g.store.now) _ _ c.in_err-sizes.ensures)
 
-pub rest_room-requires : goal.rest_room-requires
-rest_room-requires c =
+pub invariant_of-rest_room : goal.invariant_of-rest_room
+invariant_of-rest_room c =
     let g = c.args in
-    store_sized 1 g.n g.store.now g.n c.sizes-c.ensures c.if-c-ne0.false
+    let e = c.in_ok-sizes.ensures in
+    record { some = cols_some 1 g.n g.store.now g.n e; sized = store_sized 1 g.n g.store.now g.n e }
 
 pub returns : goal.returns
 unfolding rest_in
 returns c =
     let g = c.args in
-    ap (λ (s : List Float). read (answered tt) s) c.rest_room.ensures
-    ∙ call-worked _ (λ (k : ℕ). read (refused k) g.store.now) _ (sym c.sizes-c.ensures ∙ c.if-c-ne0.false)
+    ap (λ (s : List Float). read (answered tt) s) (search rules ∙ c.rest_room.ensures.cells)
+    ∙ call-worked _ (λ (k : ℕ). read (refused k) g.store.now) _ (sym c.in_ok-sizes.ensures)

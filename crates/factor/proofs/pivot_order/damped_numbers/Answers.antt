@@ -1,31 +1,30 @@
-use Prim.Native.Nat.{◌*◌}
-use mathlib.Core.Path.{sym}
-use borrow.Author.Rules.{rules}
-use mathlib.Core.List.{◌++◌}
-use lib.ListN.{drop}
-use Rattle.factor.proofs.Layouts.{square_of_lem}
-use Rattle.factor.proofs.Damped.{sized_lent, room_lowered, step_left}
+use mathlib.Core.Path.{refl, ap}
+use Rattle.std.specs.Prelude.{is_ok}
+use Rattle.factor.proofs.Damped.{eliminate_fits, room_lowered, step_left}
 use Rattle.factor.proofs.pivot_order.damped_numbers.Goals as goal
 
-pub slice_bounds-eliminate_diag-end-2 : goal.slice_bounds-eliminate_diag-end-2
-slice_bounds-eliminate_diag-end-2 c = sym (square_of_lem c.args.n c.args.store.now c.requires.n_nonzero.1).whole
-
-pub slice_bounds-backward_in-end-2 : goal.slice_bounds-backward_in-end-2
-slice_bounds-backward_in-end-2 c =
+pub unwrap-requires : goal.unwrap-requires
+unwrap-requires c =
     let g = c.args in
+    let p = g.p.now in
+    let q = c.requires in
     let x = c.eliminate_diag in
-    sym (square_of_lem g.n (x.new.square ++ drop (g.n * g.n) g.store.now) (sized_lent g.n x.new.square g.store.now c.requires.n_nonzero.1 x.auto.square)).whole
-
-pub backward_in-requires : goal.backward_in-requires
-backward_in-requires c =
-    let g = c.args in
-    let x = c.eliminate_diag in
-    record { square = square_of_lem g.n (x.new.square ++ drop (g.n * g.n) g.store.now) (sized_lent g.n x.new.square g.store.now c.requires.n_nonzero.1 x.auto.square); ldiag_len = search rules; w_len = search rules }
+    let y = c.copy_part in
+    let r = c.lent.ensures in
+    ap is_ok (eliminate_fits p.n g.ds.now p.cells.now x.new.square y.new.w x.new.rhs g.ldiag.now x.new.ldiag (p.some, p.sized) q.ds_len q.ldiag_len x.auto.square (rw (r.n, r.cells) at y.ensures) x.ensures x.result refl)
 
 pub returns : goal.returns
 returns c =
     let g = c.args in
-    let p = c.requires in
+    let p = g.p.now in
+    let q = c.requires in
     let x = c.eliminate_diag in
     let y = c.copy_part in
-    record { store_after = room_lowered g.n g.ds.now g.store.now x.new.square y.new.w x.new.rhs g.ldiag.now x.new.ldiag p.n_nonzero p.ds_len p.ldiag_len x.auto.square y.ensures x.ensures _ c.put_part.ensures; w_after = step_left g.n g.ds.now g.store.now x.new.square y.new.w x.new.rhs g.ldiag.now x.new.ldiag p.n_nonzero p.ds_len p.ldiag_len x.auto.square y.ensures x.ensures c.backward_in.ensures }
+    let r = c.lent.ensures in
+    let o = c.lent-2.ensures in
+    let z = c.put_part.ensures in
+    record {
+      same_cells = z.same_cells;
+      room = room_lowered p.n g.ds.now p.cells.now x.new.square y.new.w x.new.rhs g.ldiag.now x.new.ldiag (p.some, p.sized) q.ds_len q.ldiag_len x.auto.square (rw (r.n, r.cells) at y.ensures) x.ensures _ (rw z.same_n at z.room) refl;
+      w_after = step_left p.n g.ds.now p.cells.now x.new.square y.new.w x.new.rhs g.ldiag.now x.new.ldiag (p.some, p.sized) q.ds_len q.ldiag_len x.auto.square (rw (r.n, r.cells) at y.ensures) x.ensures o.cells (rw o.n at c.square_of-square.ensures.below) c.backward_in.ensures;
+    }

@@ -1,32 +1,19 @@
-use mathlib.Core.Path.{sym}
-use native.Mathlib.Omega.{arith}
-use Rattle.leaves.proofs.Insides.{square_small}
-use Rattle.factor.proofs.Layouts.{square_of_lem}
-use Rattle.factor.proofs.Lends.{fit, store_sized}
+use Rattle.factor.proofs.Lends.{store_sized}
 use Rattle.factor.proofs.PivotOrders.{full_rank-refused, full_rank-told}
+use Rattle.factor.proofs.Answers.{handed_on}
 use Rattle.factor.proofs.pivot_order.full_rank.Goals as goal
 
-pub returns-then-c-ne0 : goal.returns-then-c-ne0
-returns-then-c-ne0 c =
+pub returns-in_err-sizes : goal.returns-in_err-sizes
+returns-in_err-sizes c =
     let g = c.args in
-    full_rank-refused g.m g.n g.store.now c.sizes-c.ensures c.if-c-ne0.true
+    rw (handed_on _ _ c.from_residual.ensures.1) (full_rank-refused g.m g.n g.store.now _ c.in_err-sizes.ensures)
 
-pub overflow_mul-nn : goal.overflow_mul-nn
-overflow_mul-nn c =
+pub invariant_of-square_of : goal.invariant_of-square_of
+invariant_of-square_of c =
     let g = c.args in
-    omega (arith, square_small (fit g.m g.n g.store.now g.n c.sizes-c.ensures c.if-c-ne0.false).sizes)
-
-pub slice_bounds-non_singular-end : goal.slice_bounds-non_singular-end
-slice_bounds-non_singular-end c =
-    let g = c.args in
-    sym (square_of_lem g.n g.store.now (store_sized g.m g.n g.store.now g.n c.sizes-c.ensures c.if-c-ne0.false)).whole
-
-pub non_singular-requires : goal.non_singular-requires
-non_singular-requires c =
-    let g = c.args in
-    square_of_lem g.n g.store.now (store_sized g.m g.n g.store.now g.n c.sizes-c.ensures c.if-c-ne0.false)
+    record { sized = store_sized g.m g.n g.store.now g.n c.in_ok-sizes.ensures }
 
 pub returns : goal.returns
 returns c =
     let g = c.args in
-    full_rank-told g.m g.n g.store.now c.sizes-c.ensures c.if-c-ne0.false c.non_singular.ensures
+    full_rank-told g.m g.n g.store.now c.in_ok-sizes.ensures c.square_of-square.ensures.n c.square_of-square.ensures.upper c.non_singular.ensures

@@ -4,34 +4,38 @@ use Rattle.factor.specs.PivotOrder.{held_damped_in}
 use Rattle.factor.specs.declared.state.Held.TheVariants as held
 use Rattle.factor.proofs.Lends.{each_long, front_long, store_sized, lent-refused, lent_written}
 use Rattle.factor.proofs.PivotOrders.{held_of}
+use Rattle.factor.proofs.Answers.{handed_on}
 use Rattle.factor.proofs.pivot_order.held_damped.Goals as goal
 
-pub returns-then-c-ne0 : goal.returns-then-c-ne0
+pub returns-in_err-sizes : goal.returns-in_err-sizes
 unfolding held_damped_in
-returns-then-c-ne0 c =
+returns-in_err-sizes c =
     let g = c.args in
-    lent-refused 1 g.n g.store.now g.w.now (held_of held.Damped g.n g.store.now g.w.now) c.sizes-c.ensures c.if-c-ne0.true
+    rw (handed_on _ _ c.from_residual.ensures.1) (lent-refused 1 g.n g.store.now g.w.now (held_of held.Damped g.n g.store.now g.w.now) _ c.in_err-sizes.ensures)
 
 pub slice_bounds-solve_damped-end : goal.slice_bounds-solve_damped-end
 slice_bounds-solve_damped-end c =
     let g = c.args in
-    each_long 1 g.n g.store.now (length g.w.now) c.sizes-c.ensures c.if-c-ne0.false
+    each_long 1 g.n g.store.now (length g.w.now) c.in_ok-sizes.ensures
 
 pub slice_bounds-solve_damped-end-2 : goal.slice_bounds-solve_damped-end-2
 slice_bounds-solve_damped-end-2 c =
     let g = c.args in
-    sym (front_long 1 g.n g.store.now g.w.now c.sizes-c.ensures c.if-c-ne0.false)
+    sym (front_long 1 g.n g.store.now g.w.now c.in_ok-sizes.ensures)
+
+pub invariant_of-solve_damped : goal.invariant_of-solve_damped
+invariant_of-solve_damped c =
+    let g = c.args in
+    record { sized = store_sized 1 g.n g.store.now (length g.w.now) c.in_ok-sizes.ensures }
 
 pub solve_damped-requires : goal.solve_damped-requires
 solve_damped-requires c =
     let g = c.args in
-    let e = c.sizes-c.ensures in
-    let z = c.if-c-ne0.false in
-    record { sized = store_sized 1 g.n g.store.now (length g.w.now) e z; w_len = front_long 1 g.n g.store.now g.w.now e z }
+    front_long 1 g.n g.store.now g.w.now c.in_ok-sizes.ensures
 
 pub returns : goal.returns
 unfolding held_damped_in
 returns c =
     let g = c.args in
     let x = c.solve_damped in
-    lent_written 1 g.n g.store.now g.w.now (held_of held.Damped g.n g.store.now g.w.now) c.sizes-c.ensures c.if-c-ne0.false x.ensures x.auto.w
+    lent_written 1 g.n g.store.now g.w.now (held_of held.Damped g.n g.store.now g.w.now) c.in_ok-sizes.ensures x.ensures x.auto.w

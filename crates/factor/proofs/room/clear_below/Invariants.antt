@@ -1,4 +1,3 @@
-use Prim.Native.Nat.{◌-◌, ◌≤◌}
 use mathlib.Core.Path.{◌≡◌}
 use Rattle.leaves.specs.Square.{uppers_of, belows_of}
 use Rattle.factor.proofs.Lent.{cleared_to}
@@ -6,7 +5,4 @@ use Rattle.leaves.specs.inner.Squares.{Square}
 use Rattle.factor.proofs.room.clear_below.Given as goal
 
 abbrev pub invariant-loop-k : goal.invariant-loop-k
-invariant-loop-k l = (l.k ≤ l.n) × (Square l.n l.square) × (uppers_of l.n l.square ≡ uppers_of l.n l.initial.square) × (belows_of l.n l.square ≡ cleared_to l.k (belows_of l.n l.initial.square))
-
-abbrev pub decreases-loop-k : goal.decreases-loop-k
-decreases-loop-k l = l.n - l.k
+invariant-loop-k l = Square l.n l.square × (uppers_of l.n l.square ≡ uppers_of l.n l.initial.square) × (belows_of l.n l.square ≡ cleared_to l.k (belows_of l.n l.initial.square))

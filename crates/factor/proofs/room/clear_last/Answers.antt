@@ -1,3 +1,4 @@
+use mathlib.Core.Path.{refl}
 use lib.Ieee.{of_bits}
 use Rattle.factor.proofs.Lent.{last_lent}
 use Rattle.factor.proofs.room.clear_last.Goals as goal
@@ -7,4 +8,4 @@ unfolding of_bits
 returns c =
     let g = c.args in
     let a = c.part_at-a in
-    last_lent g.n a.result _ g.store.now c.requires a.ensures.0 c.fill.ensures
+    record { same_n = refl; same_cells = refl; room = last_lent g.p.now.n a.result _ g.p.now.cells.now g.p.now.sized a.ensures.0 c.fill.ensures }

@@ -9,5 +9,7 @@ use Rattle.factor.proofs.room.put_damped.Goals as goal
 pub returns : goal.returns
 returns c =
     let g = c.args in
-    laid g.n _ (c.clear_part.ensures ∙ ap (λ (r : Room). with_part 3 (zeros g.n) r) c.put_part.ensures
-    ∙ left_as_lem g.n g.ldiag.now _ (load_shaped g.n g.store.now c.requires.sized))
+    let p = g.p.now in
+    let x = c.put_part.ensures in
+    let y = c.clear_part.ensures in
+    record { same_n = y.same_n ∙ x.same_n; same_cells = y.same_cells ∙ x.same_cells; cells = laid _ _ (y.room ∙ rw x.same_n (ap (λ (r : Room). with_part 3 (zeros p.n) r) (rw x.same_n at x.room)) ∙ left_as_lem p.n g.ldiag.now _ (load_shaped p.n p.cells.now p.sized)) }

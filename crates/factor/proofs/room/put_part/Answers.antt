@@ -1,7 +1,6 @@
-use mathlib.Core.Path.{sym, ap, ◌∙◌}
+use mathlib.Core.Path.{refl, ap, ◌∙◌}
 use lib.ListN.{length}
-use Rattle.leaves.proofs.Folds.{copy_leaves}
-use Rattle.factor.proofs.Lent.{part_read, part_fits, part_lent}
+use Rattle.factor.proofs.Lent.{part_lent}
 use Rattle.factor.specs.Room.{load}
 use mathlib.Core.List.{List}
 use lib.Ieee.{Float}
@@ -13,7 +12,10 @@ returns c =
     let g = c.args in
     let p = c.requires in
     let a = c.part_at-a in
-    let e = part_read g.n g.k a.result g.store.now a.ensures.0 in
-    let y = copy_leaves _ _ _ (p.k_bound.1 ∙ sym (ap length e ∙ part_fits g.n g.k g.store.now p.sized p.k_bound.0)) c.copy.ensures in
-    part_lent g.n g.k a.result _ g.store.now p.sized p.k_bound.0 a.ensures.0 (ap length y ∙ p.k_bound.1)
-    ∙ ap (λ (l : List Float). with_part g.k l (load g.n g.store.now)) y
+    let y = c.copy_from_slice.ensures.after in
+    record {
+      same_n = refl;
+      same_cells = refl;
+      room = part_lent g.p.now.n g.k a.result _ g.p.now.cells.now g.p.now.sized p.0 a.ensures.0 (ap length y ∙ p.1)
+          ∙ ap (λ (l : List Float). with_part g.k l (load g.p.now.n g.p.now.cells.now)) y;
+    }

@@ -5,5 +5,6 @@ use Rattle.factor.proofs.room.rest_room.Goals as goal
 
 pub returns : goal.returns
 returns c =
-    let g = c.args in
-    laid g.n _ (c.clear_part.ensures ∙ rested_as g.n _ (load_shaped g.n g.store.now c.requires))
+    let g = c.args.p.now in
+    let x = c.clear_part.ensures in
+    record { same_n = x.same_n; same_cells = x.same_cells; cells = laid _ _ (x.room ∙ rested_as g.n _ (load_shaped g.n g.cells.now g.sized)) }

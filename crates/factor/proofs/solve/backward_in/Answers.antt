@@ -8,17 +8,17 @@ use Rattle.factor.proofs.solve.backward_in.Goals as goal
 
 pub clear_from-requires : goal.clear_from-requires
 clear_from-requires c =
-    let h = rank_most c.args.ldiag.now in
+    let h = rank_most c.args.l.ldiag.now in
     let e = c.rank_of_diag-full.ensures in
     omega arith
 
 pub backward_from-requires : goal.backward_from-requires
 backward_from-requires c =
-    let h = rank_most c.args.ldiag.now in
+    let h = rank_most c.args.l.ldiag.now in
     let e = c.rank_of_diag-full.ensures in
-    record { square = c.requires.square; full_le_n = omega arith; ldiag_len = c.requires.ldiag_len; w_len = c.clear_from.auto.w ∙ c.requires.w_len }
+    record { full_le_n = omega arith; w_len = c.clear_from.auto.w ∙ c.requires }
 
 pub returns : goal.returns
 returns c =
     let g = c.args in
-    damped_law g.n _ g.ldiag.now (belows_of g.n g.square.now) g.w.now _ _ c.requires.ldiag_len (belows_of-length g.n g.square.now) c.requires.w_len c.rank_of_diag-full.ensures c.clear_from.ensures c.backward_from.ensures
+    damped_law g.l.square.n _ g.l.ldiag.now (belows_of g.l.square.n g.l.square.cells.now) g.w.now _ _ c.args.l.ldiag_len (belows_of-length g.l.square.n g.l.square.cells.now) c.requires c.rank_of_diag-full.ensures c.clear_from.ensures c.backward_from.ensures

@@ -1,9 +1,9 @@
-use Prim.Native.Nat.{◌+◌, ◌-◌, ◌<◌}
-use mathlib.Core.Path.{◌≡◌, refl, ◌∙◌}
+use Prim.Native.Nat.{◌-◌, ◌<◌}
+use mathlib.Core.Path.{refl, ◌∙◌}
 use native.Mathlib.Nat.{zero-add, sub-zero}
 use native.Mathlib.Omega.{arith}
 use borrow.Author.Rules.{rules}
-use lib.ListN.{length, length-set}
+use lib.ListN.{length}
 use Rattle.frozen.specs.Frozen.{marks_of, free_count}
 use Rattle.frozen.proofs.Turns.{next_below, count_free, count_frozen, some_free}
 use Rattle.frozen.proofs.Moves.{gather_free, gather_frozen, drop_next, gather_short, gather_no_room, gather-end}
@@ -20,7 +20,7 @@ returns-then-dst-free_count c =
     gather_no_room g.n g.marks g.src.now g.dst.now c.if-src-n.false h
 
 pub loop-k-init : goal.loop-k-init
-loop-k-init c = (search rules, search rules, refl, rw sub-zero (zero-add _), refl, rw sub-zero refl)
+loop-k-init c = (search rules, rw sub-zero (zero-add _), refl, rw sub-zero refl)
 
 pub bounds-dst-j : goal.bounds-dst-j
 bounds-dst-j c =
@@ -37,7 +37,6 @@ loop-k-preserved c =
     let h = c.loop-k-test.true in
     let b = next_below l.x l.invariant.0 in
     let p : l.k < length g.src.now = search rules in
-    let e : g.n - l.k - 1 ≡ g.n - (l.k + 1) = omega arith in
     rw c.next_of-x.ensures
     (elim c.if-x-lt32768.branch [
       | then-x-lt32768 w ↦ let s = some_free (g.n - l.k) l.x (omega arith) w.if-x-lt32768.true in
@@ -45,19 +44,15 @@ loop-k-preserved c =
           let q : l.j < length l.dst = omega arith in
           rw (w.dst-is, w.j-is) (
             b,
-            search rules,
-            simp length-set l.invariant.2,
-            rw (← e) (count_free (g.n - l.k) l.x l.j (omega arith) w.if-x-lt32768.true ∙ l.invariant.3),
-            drop_next l.j _ l.dst g.dst.now l.invariant.4,
-            gather_free g.n l.k l.x h g.src.now l.dst l.j w.if-x-lt32768.true p q ∙ l.invariant.5,
+            count_free g.n l.k l.x h l.j w.if-x-lt32768.true ∙ l.invariant.1,
+            drop_next l.j _ l.dst g.dst.now l.invariant.2,
+            gather_free g.n l.k l.x h g.src.now l.dst l.j w.if-x-lt32768.true p q ∙ l.invariant.3,
           )
       | else-x-lt32768 w ↦ rw (w.dst-is, w.j-is) (
         b,
-        search rules,
+        count_frozen g.n l.k l.x h l.j w.if-x-lt32768.false ∙ l.invariant.1,
         l.invariant.2,
-        rw (← e) (count_frozen (g.n - l.k) l.x l.j (omega arith) w.if-x-lt32768.false ∙ l.invariant.3),
-        l.invariant.4,
-        gather_frozen g.n l.k l.x h g.src.now l.dst l.j w.if-x-lt32768.false p ∙ l.invariant.5,
+        gather_frozen g.n l.k l.x h g.src.now l.dst l.j w.if-x-lt32768.false p ∙ l.invariant.3,
       )
     ])
 
@@ -66,4 +61,4 @@ returns c =
     let g = c.args in
     let l = c.loop-k in
     let e = c.free_count.ensures in
-    gather-end g.n g.marks g.src.now g.dst.now l.dst l.k l.x l.j c.loop-k-test.false c.if-src-n.false (omega arith) (omega arith) l.invariant.4 l.invariant.5
+    gather-end g.n g.marks g.src.now g.dst.now l.dst l.k l.x l.j c.loop-k-test.false c.if-src-n.false (omega arith) (omega arith) l.invariant.2 l.invariant.3

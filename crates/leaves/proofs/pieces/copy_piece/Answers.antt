@@ -5,7 +5,6 @@ use lib.ListN.{length, take, drop}
 use borrow.Rule.Slice.PartMut.{mid_len}
 use mathlib.Core.List.{List}
 use lib.Ieee.{Float}
-use Rattle.leaves.proofs.Folds.{copy_leaves}
 use Rattle.leaves.proofs.Splices.{splice, lent}
 use Rattle.leaves.proofs.pieces.copy_piece.Goals as goal
 
@@ -15,5 +14,5 @@ returns c =
     let s = g.dst.now in
     let h : length (take (g.e - g.a) (drop g.a g.src.now)) ≡ length (take (g.e - g.a) (drop g.a s)) =
     mid_len g.a g.e g.src.now (omega (arith, c.requires.src_len, c.requires.a_le_e.1)) ∙ sym (mid_len g.a g.e s c.requires.a_le_e.1) in
-    let y = copy_leaves _ _ _ h c.copy.ensures in
-    lent g.a g.e c.copy.new.dst s c.requires.a_le_e.0 ∙ ap (λ (l : List Float). splice g.a g.e l s) y
+    let y = c.copy_from_slice.ensures.after in
+    lent g.a g.e c.copy_from_slice.new.self s c.requires.a_le_e.0 ∙ ap (λ (l : List Float). splice g.a g.e l s) y

@@ -1,6 +1,4 @@
 use mathlib.Core.Path.{refl}
-use borrow.Author.Rules.{rules}
-use lib.ListN.{length-set}
 use Rattle.leaves.specs.Vector.{axpy_all}
 use Rattle.leaves.proofs.Folds.{axpy_turn, axpy-refused, axpy_is}
 use Rattle.leaves.proofs.vector.axpy.Goals as goal
@@ -10,15 +8,14 @@ returns-then-x-y c = axpy-refused _ _ _ c.if-x-y.true
 
 pub loop-i-init : goal.loop-i-init
 unfolding axpy_all
-loop-i-init c = (search rules, c.if-x-y.false, refl, refl)
+loop-i-init c = refl
 
 pub loop-i-preserved : goal.loop-i-preserved
 loop-i-preserved c =
     let l = c.loop-i in
-    let h = c.loop-i-test.true in
-    (search rules, l.invariant.1, simp length-set l.invariant.2, axpy_turn _ _ _ l.y l.i h l.invariant.1 l.invariant.3)
+    axpy_turn _ _ _ l.y l.i c.loop-i-test.true c.if-x-y.false l.invariant
 
 pub returns : goal.returns
 returns c =
     let l = c.loop-i in
-    axpy_is _ _ _ l.y l.i l.invariant.1 c.loop-i-test.false l.invariant.3
+    axpy_is _ _ _ l.y l.i c.if-x-y.false c.loop-i-test.false l.invariant

@@ -1,9 +1,6 @@
-use Rattle.std.proofs.Common.{refl, rules}
+use Rattle.std.proofs.Common.{◌≡◌, arith, rules}
 use Rattle.lines.proofs.feed.Feeding.{fed_stop, fed_go, fed_end}
 use Rattle.lines.proofs.feed.line.Goals as goal
-
-pub loop-i-init : goal.loop-i-init
-loop-i-init c = (refl, refl)
 
 pub returns-then-b-eq10 : goal.returns-then-b-eq10
 returns-then-b-eq10 c =
@@ -16,4 +13,7 @@ loop-i-preserved c =
     (search rules, fed_go _ l.i l.k _ _ _ _ c.loop-i-test.true c.if-b-eq10.false c.wrapping_add_usize-k.ensures.value c.keep.ensures l.invariant.1)
 
 pub returns : goal.returns
-returns c = let l = c.loop-i in fed_end _ l.i l.k _ _ c.loop-i-test.false l.invariant.1
+returns c =
+    let l = c.loop-i in
+    let e : c.max.result ≡ l.i = omega arith in
+    rw e (fed_end _ l.i l.k _ _ c.loop-i-test.false l.invariant.1)

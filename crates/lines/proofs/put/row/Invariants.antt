@@ -1,10 +1,9 @@
--- `lines::put::row` meets its contract. The measure is what is left of the numbers. Assumes nothing.
-use Rattle.std.proofs.Common.{◌≡◌, ◌-◌, length, drop}
+-- `lines::put::row` meets its contract. Assumes nothing.
+use Rattle.std.proofs.Common.{◌≡◌, drop}
 use Rattle.lines.specs.Put.{row_from}
 use Rattle.lines.proofs.put.row.Given as goal
 
-abbrev pub invariant-loop-i : goal.invariant-loop-i
-invariant-loop-i l = (length l.out ≡ length l.initial.out) × (row_from (drop l.i l.v) l.k l.out ≡ row_from l.v l.at l.initial.out)
-
-abbrev pub decreases-loop-i : goal.decreases-loop-i
-decreases-loop-i l = length l.v - l.i
+abbrev pub invariant-loop-x : goal.invariant-loop-x
+invariant-loop-x l =
+    (row_from (drop l.x-index l.v) l.page.at l.page.out.now ≡ row_from l.v l.initial.page.at l.initial.page.out.now)
+    × (l.page.out.ghost_name ≡ l.initial.page.out.ghost_name)

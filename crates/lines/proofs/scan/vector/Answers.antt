@@ -1,10 +1,11 @@
-use Rattle.lines.proofs.scan.Scanning.{nothing, vector_is, vector_not}
+use Rattle.std.proofs.Common.{sym, ◌∙◌}
+use Rattle.lines.specs.Scan.{vector_at}
 use Rattle.lines.proofs.scan.vector.Goals as goal
 
-pub returns-then-n : goal.returns-then-n
-returns-then-n c =
-    let d = c.doubles in
-    record { room_after = vector_is _ _ _ _ _ c.word-n.ensures c.if-n.true d.ensures.room_after; part = d.ensures.part }
+pub returns-in_default-clause-room_after : goal.returns-in_default-clause-room_after
+unfolding vector_at
+returns-in_default-clause-room_after c = rw (sym c.word.ensures ∙ c.in_default.is, vector_at)
 
-pub returns : goal.returns
-returns c = record { room_after = vector_not _ _ _ _ _ c.word-n.ensures c.if-n.false c.bad.ensures; part = nothing _ _ _ _ c.bad.ensures }
+pub returns-clause-room_after : goal.returns-clause-room_after
+unfolding vector_at
+returns-clause-room_after c = rw (sym c.word.ensures ∙ c.in-Some.is, vector_at) c.doubles.ensures.room_after

@@ -1,8 +1,10 @@
-use Rattle.lines.proofs.scan.Scanning.{word_is, word_not}
+use Rattle.lines.specs.Scan.{word_at}
 use Rattle.lines.proofs.scan.word.Goals as goal
 
-pub returns-in-Is : goal.returns-in-Is
-returns-in-Is c = word_is _ _ _ _ _ c.number-r.ensures c.in-Is.is c.past_space-next.ensures
+pub returns-in_err-f : goal.returns-in_err-f
+unfolding word_at
+returns-in_err-f c = rw (c.from_residual.ensures, ← c.number.ensures, c.in_err-f.was, word_at)
 
-pub returns-in-Refused : goal.returns-in-Refused
-returns-in-Refused c = word_not _ _ _ c.number-r.ensures c.in-Refused.is
+pub returns : goal.returns
+unfolding word_at
+returns c = rw (← c.number.ensures, c.in_ok-f.was, c.past_space.ensures, word_at)

@@ -1,47 +1,30 @@
-use mathlib.Core.Path.{sym}
+use mathlib.Core.Path.{refl}
 use lib.ListN.{length}
-use Rattle.leaves.proofs.Overs.{lent_fits, lent_long}
-use Rattle.factor.proofs.Passed.{passed_sized}
-use Rattle.factor.proofs.Orders.{ordered-below}
-use Rattle.measures.proofs.Measured.{above_passed, above-refused, above-worked}
+use Rattle.leaves.proofs.Replies.{refusal_number-some}
+use Rattle.factor.proofs.Copied.{rested_by_lem}
+use Rattle.measures.proofs.Asked.{rest_granted}
+use Rattle.measures.proofs.Measured.{one_inside, ordered_form, above_passed, above-refused, above-worked}
 use Rattle.measures.proofs.above.above_limit.Goals as goal
 
-pub returns-then-c-ne0 : goal.returns-then-c-ne0
-returns-then-c-ne0 c =
+pub returns-in-Err : goal.returns-in-Err
+returns-in-Err c =
     let g = c.args in
-    above-refused g.st g.order.now g.bnorm g.limit g.store.now c.check_above-c.ensures c.if-c-ne0.true
+    above-refused g.st g.order.now g.bnorm g.limit g.store.now c.in-Err.ensures (refusal_number-some c.in-Err.no)
 
-pub slice_bounds-b-end : goal.slice_bounds-b-end
-slice_bounds-b-end c =
+pub invariant_of-problem : goal.invariant_of-problem
+invariant_of-problem c =
     let g = c.args in
-    let o = above_passed g.st (length g.store.now) g.order.now g.bnorm g.limit c.check_above-c.ensures c.if-c-ne0.false in
-    lent_fits g.st.n _ c.room16-b.ensures o.room.sizes.cols_few
+    let f = ordered_form g.st g.store.now g.order.now (length g.order.now) (above_passed g.st (length g.store.now) g.order.now g.bnorm g.limit c.in_default.ensures refl) in
+    record { some = f.some; sized = f.sized; names = f.names }
 
-pub slice_bounds-above_in-end : goal.slice_bounds-above_in-end
-slice_bounds-above_in-end c =
+pub unwrap-requires : goal.unwrap-requires
+unwrap-requires c =
     let g = c.args in
-    let o = above_passed g.st (length g.store.now) g.order.now g.bnorm g.limit c.check_above-c.ensures c.if-c-ne0.false in
-    sym (lent_long g.st.n _ c.room16-b.ensures o.room.sizes.cols_few)
-
-pub slice_bounds-s-end : goal.slice_bounds-s-end
-slice_bounds-s-end c =
-    let g = c.args in
-    let o = above_passed g.st (length g.store.now) g.order.now g.bnorm g.limit c.check_above-c.ensures c.if-c-ne0.false in
-    lent_fits g.st.n _ c.room16-s.ensures o.room.sizes.cols_few
-
-pub slice_bounds-above_in-end-2 : goal.slice_bounds-above_in-end-2
-slice_bounds-above_in-end-2 c =
-    let g = c.args in
-    let o = above_passed g.st (length g.store.now) g.order.now g.bnorm g.limit c.check_above-c.ensures c.if-c-ne0.false in
-    sym (lent_long g.st.n _ c.room16-s.ensures o.room.sizes.cols_few)
-
-pub above_in-answer-requires : goal.above_in-answer-requires
-above_in-answer-requires c =
-    let g = c.args in
-    let o = above_passed g.st (length g.store.now) g.order.now g.bnorm g.limit c.check_above-c.ensures c.if-c-ne0.false in
-    record { n_nonzero = (o.room.sizes.cols_some, passed_sized g.st g.store.now (length g.order.now) o.room); n_in_bounds = o.order_long; by_index = ordered-below g.st (length g.store.now) g.order.now (length g.order.now) o; b_len = (lent_long g.st.n _ c.room16-b.ensures o.room.sizes.cols_few, lent_long g.st.n _ c.room16-s.ensures o.room.sizes.cols_few) }
+    let f = ordered_form g.st g.store.now g.order.now (length g.order.now) (above_passed g.st (length g.store.now) g.order.now g.bnorm g.limit c.in_default.ensures refl) in
+    rest_granted (one_inside f.some f.sized) g.store.now f.sized c.rest.result c.rest.ensures
 
 pub returns : goal.returns
 returns c =
     let g = c.args in
-    above-worked g.st g.order.now g.bnorm g.limit g.store.now c.check_above-c.ensures c.if-c-ne0.false c.above_in-answer.ensures.result_value c.above_in-answer.ensures.store_after
+    let f = ordered_form g.st g.store.now g.order.now (length g.order.now) (above_passed g.st (length g.store.now) g.order.now g.bnorm g.limit c.in_default.ensures refl) in
+    above-worked g.st g.order.now g.bnorm g.limit g.store.now c.in_default.ensures refl c.above_limit-answer.ensures (rested_by_lem (one_inside f.some f.sized) g.store.now f.sized c.rest.ensures)

@@ -1,48 +1,38 @@
-use mathlib.Core.Path.{refl, sym, ap, ◌∙◌}
+use mathlib.Core.Path.{sym, ap, ◌∙◌}
 use mathlib.Core.Bool.{not}
-use mathlib.Core.List.{[], ◌∷◌, ◌++◌}
-use lib.ListN.{length}
+use mathlib.Core.List.{[], ◌∷◌}
 use lib.Ieee.{of_bits}
 use Rattle.leaves.specs.Tests.{Test}
-use Rattle.factor.specs.Tests.{room_tests, order_test, finite_number, not_above}
-use Rattle.leaves.proofs.Refusals.{stopped, test_met, went_to, past, none_left}
-use Rattle.measures.proofs.Measured.{gradient_first}
+use Rattle.factor.specs.Tests.{finite_number, not_above}
+use Rattle.leaves.proofs.Refusals.{test_met, past, none_left}
+use Rattle.leaves.proofs.Replies.{refusal_number-some}
+use Rattle.measures.proofs.Asked.{handed_on}
+use Rattle.measures.proofs.Measured.{gradient-stopped, gradient_went}
 use Rattle.measures.proofs.measures.check_gradient.Goals as goal
 
-pub returns-then-c-ne0 : goal.returns-then-c-ne0
-returns-then-c-ne0 c =
+pub returns-in_err-ordered : goal.returns-in_err-ordered
+returns-in_err-ordered c =
     let g = c.args in
-    let ts = room_tests g.st g.store (length g.order.now) ++ (order_test g.st g.order.now ∷ []) in
-    let low : Test = (not_above g.bnorm, 7) in
-    let us = finite_number g.bnorm ∷ low ∷ [] in
-    let e = gradient_first g.st g.store g.order.now c.ordered-c.ensures in
-    sym (stopped ts us _ e c.if-c-ne0.true)
+    handed_on c.from_residual.result _ c.from_residual.ensures.1 ∙ gradient-stopped g.st g.store g.order.now g.bnorm c.in_err-ordered.ensures (refusal_number-some _)
 
 pub returns-then-not-is_finite : goal.returns-then-not-is_finite
 returns-then-not-is_finite c =
     let g = c.args in
-    let ts = room_tests g.st g.store (length g.order.now) ++ (order_test g.st g.order.now ∷ []) in
-    let low : Test = (not_above g.bnorm, 7) in
-    let us = finite_number g.bnorm ∷ low ∷ [] in
-    let e = gradient_first g.st g.store g.order.now c.ordered-c.ensures in
-    went_to ts us refl e c.if-c-ne0.false (sym (test_met (finite_number g.bnorm) (low ∷ []) (ap not (sym c.is_finite.ensures) ∙ (ap not c.if-not-is_finite.true))))
+    gradient_went g.st g.store g.order.now g.bnorm c.in_ok-ordered.ensures
+    (sym (test_met (finite_number g.bnorm) _ (ap not (sym c.is_finite.ensures) ∙ (ap not c.if-not-is_finite.true))))
 
 pub returns-then-bnorm : goal.returns-then-bnorm
 unfolding of_bits
 returns-then-bnorm c =
     let g = c.args in
-    let ts = room_tests g.st g.store (length g.order.now) ++ (order_test g.st g.order.now ∷ []) in
     let low : Test = (not_above g.bnorm, 7) in
-    let us = finite_number g.bnorm ∷ low ∷ [] in
-    let e = gradient_first g.st g.store g.order.now c.ordered-c.ensures in
-    went_to ts us refl e c.if-c-ne0.false (past (finite_number g.bnorm) (low ∷ []) (ap not (sym c.is_finite.ensures) ∙ (ap not c.if-not-is_finite.false)) (sym (test_met low [] c.if-bnorm.true)))
+    gradient_went g.st g.store g.order.now g.bnorm c.in_ok-ordered.ensures
+    (past (finite_number g.bnorm) (low ∷ []) (ap not (sym c.is_finite.ensures) ∙ (ap not c.if-not-is_finite.false)) (sym (test_met low [] c.if-bnorm.true)))
 
 pub returns : goal.returns
 unfolding of_bits
 returns c =
     let g = c.args in
-    let ts = room_tests g.st g.store (length g.order.now) ++ (order_test g.st g.order.now ∷ []) in
     let low : Test = (not_above g.bnorm, 7) in
-    let us = finite_number g.bnorm ∷ low ∷ [] in
-    let e = gradient_first g.st g.store g.order.now c.ordered-c.ensures in
-    went_to ts us refl e c.if-c-ne0.false (past (finite_number g.bnorm) (low ∷ []) (ap not (sym c.is_finite.ensures) ∙ (ap not c.if-not-is_finite.false)) (past low [] c.if-bnorm.false none_left))
+    gradient_went g.st g.store g.order.now g.bnorm c.in_ok-ordered.ensures
+    (past (finite_number g.bnorm) (low ∷ []) (ap not (sym c.is_finite.ensures) ∙ (ap not c.if-not-is_finite.false)) (past low [] c.if-bnorm.false none_left))

@@ -27,17 +27,8 @@ returns-then-not-is_usable c =
     let et = c.start_by-t.ensures ∙ ap (start_by c.args.bound) c.scaled_norm-s.ensures.value_value in
     start-refused c.args.n c.args.norms.now c.args.diag.now c.args.x.now c.args.bound c.requires.n_bound.1 ed et c.all_finite.ensures (ap not c.if-not-all_finite.false) c.is_usable.ensures (ap not c.if-not-is_usable.true)
 
-pub slice_bounds-copy_of-end-2 : goal.slice_bounds-copy_of-end-2
-slice_bounds-copy_of-end-2 c = simp length-take (omega arith)
-
-pub copy_of-requires : goal.copy_of-requires
-copy_of-requires c =
-    let p = c.requires in
-    let e = c.first_scaling.auto.d in
-    simp length-take (omega (arith, e, p.d_len.0, p.n_in_bounds.0))
-
 pub returns : goal.returns
 returns c =
     let ed = c.first_scaling.ensures in
     let et = c.start_by-t.ensures ∙ ap (start_by c.args.bound) c.scaled_norm-s.ensures.value_value in
-    first_given c.args.n c.args.norms.now c.args.diag.now c.args.x.now c.args.bound c.requires.n_bound.1 ed et c.all_finite.ensures _ c.scaled_norm-s.ensures.seen_value (ap not c.if-not-all_finite.false) c.is_usable.ensures (ap not c.if-not-is_usable.false) c.copy_of.ensures
+    first_given c.args.n c.args.norms.now c.args.diag.now c.args.x.now c.args.bound c.requires.n_bound.1 ed et c.all_finite.ensures _ c.scaled_norm-s.ensures.seen_value (ap not c.if-not-all_finite.false) c.is_usable.ensures (ap not c.if-not-is_usable.false) c.copy_from_slice.ensures.after

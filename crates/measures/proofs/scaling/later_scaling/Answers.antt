@@ -1,14 +1,10 @@
-use mathlib.Core.Path.{◌≡◌, refl, ◌∙◌}
+use mathlib.Core.Path.{◌≡◌, ◌∙◌}
 use native.Mathlib.Omega.{arith}
-use borrow.Author.Rules.{rules}
-use lib.ListN.{length, length-set}
+use lib.ListN.{length}
 use Rattle.leaves.proofs.Folds.{front_turn, front_end}
 use Rattle.measures.specs.Scaling.{later_scaling}
 use Rattle.measures.proofs.scaling.Scalings.{later-length, later_turn}
 use Rattle.measures.proofs.scaling.later_scaling.Goals as goal
-
-pub loop-i-init : goal.loop-i-init
-loop-i-init c = (search rules, refl, refl)
 
 pub loop-i-preserved : goal.loop-i-preserved
 loop-i-preserved c =
@@ -18,8 +14,8 @@ loop-i-preserved c =
     let zs = later_scaling g.norms.now g.d.now in
     let h = c.loop-i-test.true in
     let s : length zs ≡ length g.norms.now = later-length g.norms.now g.d.now p in
-    let at = c.max.ensures ∙ later_turn g.norms.now g.d.now l.d l.i h p l.invariant.2 in
-    (search rules, simp length-set l.invariant.1, front_turn zs _ l.d _ l.i (omega arith) (s ∙ p) at l.invariant.2)
+    let at = c.max.ensures ∙ later_turn g.norms.now g.d.now l.d l.i h p l.invariant in
+    front_turn zs _ l.d _ l.i (omega arith) (s ∙ p) at l.invariant
 
 pub returns : goal.returns
 returns c =
@@ -28,4 +24,4 @@ returns c =
     let g = c.args in
     let zs = later_scaling g.norms.now g.d.now in
     let s : length zs ≡ length g.norms.now = later-length g.norms.now g.d.now p in
-    front_end zs _ l.d l.i (s ∙ p) (omega (arith, c.loop-i-test.false)) l.invariant.2
+    front_end zs _ l.d l.i (s ∙ p) (omega (arith, c.loop-i-test.false)) l.invariant

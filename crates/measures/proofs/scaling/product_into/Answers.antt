@@ -1,14 +1,10 @@
-use mathlib.Core.Path.{◌≡◌, refl, sym, ◌∙◌}
+use mathlib.Core.Path.{◌≡◌, sym, ◌∙◌}
 use native.Mathlib.Omega.{arith}
-use borrow.Author.Rules.{rules}
-use lib.ListN.{length, length-set}
+use lib.ListN.{length}
 use Rattle.leaves.proofs.Folds.{front_turn, front_end}
 use Rattle.leaves.specs.Product.{product_all}
 use Rattle.leaves.proofs.Products.{product-length, product_at}
 use Rattle.measures.proofs.scaling.product_into.Goals as goal
-
-pub loop-i-init : goal.loop-i-init
-loop-i-init c = (search rules, refl, refl)
 
 pub loop-i-preserved : goal.loop-i-preserved
 loop-i-preserved c =
@@ -19,7 +15,7 @@ loop-i-preserved c =
     let h = c.loop-i-test.true in
     let s : length zs ≡ length g.a.now = product-length g.a.now g.b.now (p.0 ∙ sym p.1) in
     let at = product_at g.a.now g.b.now l.i h (omega arith) in
-    (search rules, simp length-set l.invariant.1, front_turn zs _ l.w _ l.i (omega arith) (s ∙ p.0) at l.invariant.2)
+    front_turn zs _ l.w _ l.i (omega arith) (s ∙ p.0) at l.invariant
 
 pub returns : goal.returns
 returns c =
@@ -28,4 +24,4 @@ returns c =
     let g = c.args in
     let zs = product_all g.a.now g.b.now in
     let s : length zs ≡ length g.a.now = product-length g.a.now g.b.now (p.0 ∙ sym p.1) in
-    front_end zs _ l.w l.i (s ∙ p.0) (omega (arith, c.loop-i-test.false)) l.invariant.2
+    front_end zs _ l.w l.i (s ∙ p.0) (omega (arith, c.loop-i-test.false)) l.invariant

@@ -9,19 +9,19 @@ use Rattle.measures.proofs.scaling.rescale.Goals as goal
 
 pub slice_bounds-first_scaled-end : goal.slice_bounds-first_scaled-end
 slice_bounds-first_scaled-end c =
-    let e : length c.room16-d.result ≡ 16 = ap length c.room16-d.ensures in
+    let e : length c.filled-d.result ≡ 16 = ap length c.filled-d.ensures in
     simp length-take (omega arith)
 
 pub slice_bounds-first_scaled-end-in-FirstScaled : goal.slice_bounds-first_scaled-end-in-FirstScaled
 slice_bounds-first_scaled-end-in-FirstScaled c =
-    let e : length c.room16-w.result ≡ 16 = ap length c.room16-w.ensures in
+    let e : length c.filled-w.result ≡ 16 = ap length c.filled-w.ensures in
     simp length-take (omega arith)
 
 pub first_scaled-requires : goal.first_scaled-requires
 first_scaled-requires c =
     let p = c.requires in
-    let e : length c.room16-d.result ≡ 16 = ap length c.room16-d.ensures in
-    let f : length c.room16-w.result ≡ 16 = ap length c.room16-w.ensures in
+    let e : length c.filled-d.result ≡ 16 = ap length c.filled-d.ensures in
+    let f : length c.filled-w.result ≡ 16 = ap length c.filled-w.ensures in
     record { n_bound = p.n_bound; d_len = (simp length-take (omega (arith, p.n_bound.0)), simp length-take (omega (arith, p.n_bound.0))); n_in_bounds = (p.n_in_bounds.0, subst (λ (m : Mode). parameters_read m c.args.n ≤ length c.args.x.now) c.in-FirstScaled.is p.n_in_bounds.1) }
 
 pub first_unscaled-requires : goal.first_unscaled-requires
@@ -29,13 +29,13 @@ first_unscaled-requires c = (c.requires.n_bound.0, subst (λ (m : Mode). paramet
 
 pub slice_bounds-later_scaled-end : goal.slice_bounds-later_scaled-end
 slice_bounds-later_scaled-end c =
-    let e : length c.room16-d.result ≡ 16 = ap length c.room16-d.ensures in
+    let e : length c.filled-d.result ≡ 16 = ap length c.filled-d.ensures in
     simp length-take (omega arith)
 
 pub later_scaled-requires : goal.later_scaled-requires
 later_scaled-requires c =
     let p = c.requires in
-    let e : length c.room16-d.result ≡ 16 = ap length c.room16-d.ensures in
+    let e : length c.filled-d.result ≡ 16 = ap length c.filled-d.ensures in
     (p.n_bound.1, simp length-take (omega (arith, p.n_bound.0)), p.n_in_bounds.0)
 
 pub returns-in-FirstScaled : goal.returns-in-FirstScaled

@@ -5,20 +5,22 @@ use lib.ListN.{length}
 use lib.Seq.{length-take-le}
 use Rattle.factor.specs.Tests.{room_tests, finite_test}
 use Rattle.leaves.proofs.Refusals.{stopped, test_met, went_to, past, none_left}
+use Rattle.leaves.proofs.Replies.{refusal_number-some}
 use Rattle.factor.proofs.Passed.{room_passed}
+use Rattle.measures.proofs.Asked.{handed_on}
 use Rattle.measures.proofs.update_diag.check_later.Goals as goal
 
-pub returns-then-c-ne0 : goal.returns-then-c-ne0
-returns-then-c-ne0 c =
+pub returns-in_err-room : goal.returns-in_err-room
+returns-in_err-room c =
     let g = c.args in
     let ts = room_tests g.st g.store (length g.diag.now) in
     let t = finite_test g.st g.diag.now in
-    sym (stopped ts (t ∷ []) _ c.room-c.ensures c.if-c-ne0.true)
+    handed_on c.from_residual.result _ c.from_residual.ensures.1 ∙ sym (stopped ts (t ∷ []) _ c.in_err-room.ensures (refusal_number-some _))
 
 pub slice_bounds-all_finite-end : goal.slice_bounds-all_finite-end
 slice_bounds-all_finite-end c =
     let g = c.args in
-    let p = room_passed g.st g.store (length g.diag.now) (sym c.room-c.ensures ∙ c.if-c-ne0.false) in
+    let p = room_passed g.st g.store (length g.diag.now) (sym c.in_ok-room.ensures) in
     sym (length-take-le g.st.n g.diag.now p.each_long)
 
 pub returns-then-all_finite : goal.returns-then-all_finite
@@ -26,11 +28,11 @@ returns-then-all_finite c =
     let g = c.args in
     let ts = room_tests g.st g.store (length g.diag.now) in
     let t = finite_test g.st g.diag.now in
-    went_to ts (t ∷ []) refl c.room-c.ensures c.if-c-ne0.false (past t [] (ap not (sym c.all_finite.ensures ∙ c.if-all_finite.true)) none_left)
+    went_to ts (t ∷ []) refl c.in_ok-room.ensures refl (past t [] (ap not (sym c.all_finite.ensures ∙ c.if-all_finite.true)) none_left)
 
 pub returns-else-all_finite : goal.returns-else-all_finite
 returns-else-all_finite c =
     let g = c.args in
     let ts = room_tests g.st g.store (length g.diag.now) in
     let t = finite_test g.st g.diag.now in
-    went_to ts (t ∷ []) refl c.room-c.ensures c.if-c-ne0.false (sym (test_met t [] (ap not (sym c.all_finite.ensures ∙ c.if-all_finite.false))))
+    went_to ts (t ∷ []) refl c.in_ok-room.ensures refl (sym (test_met t [] (ap not (sym c.all_finite.ensures ∙ c.if-all_finite.false))))

@@ -6,32 +6,32 @@ use lib.ListN.{length}
 use borrow.Author.Tests.{eq-eqb, ne_eqb}
 use Rattle.leaves.specs.Tests.{first_of}
 use Rattle.leaves.proofs.Insides.{one_row}
-use Rattle.leaves.proofs.Refusals.{stopped, went_to, past, none_left, test_met}
+use Rattle.leaves.proofs.Refusals.{went_to, past, none_left, test_met}
 use Rattle.calls.specs.Tests.{form_test, free_test}
+use Rattle.calls.proofs.Counts.{failed_some, failed_none}
+use Rattle.calls.proofs.Passed.{first_failed}
 use Rattle.packing.proofs.Lents.{lent_tests, lent, form_met, form_passed}
 use Rattle.packing.proofs.check.check_pack.Goals as goal
 
-pub returns-then-c-ne0 : goal.returns-then-c-ne0
-returns-then-c-ne0 c =
+pub returns-in_err-lent : goal.returns-in_err-lent
+returns-in_err-lent c =
     let g = c.args in
     let ts = lent_tests g.st g.store (min (length g.order.now) g.places) g.room in
     let t = form_test g.st g.order.now in
     let f = free_test g.st in
-    let e : c.lent-c.result ≡ first_of ts = rw (← c.least.ensures) c.lent-c.ensures in
-    sym (stopped ts (t ∷ f ∷ []) _ e c.if-c-ne0.true)
+    first_failed ts (t ∷ f ∷ []) _ _ c.from_residual.ensures.1 (rw (← c.least.ensures) c.in_err-lent.ensures)
 
-pub returns-then-form-ne0 : goal.returns-then-form-ne0
-returns-then-form-ne0 c =
+pub returns-then-is_err : goal.returns-then-is_err
+returns-then-is_err c =
     let g = c.args in
     let ts = lent_tests g.st g.store (min (length g.order.now) g.places) g.room in
     let t = form_test g.st g.order.now in
     let f = free_test g.st in
-    let e : c.lent-c.result ≡ first_of ts = rw (← c.least.ensures) c.lent-c.ensures in
-    let z = c.if-c-ne0.false in
-    let p = lent g.st g.store (min (length g.order.now) g.places) g.room (sym e ∙ z) in
+    let e : 0 ≡ first_of ts = rw (← c.least.ensures) c.in_ok-lent.ensures in
+    let p = lent g.st g.store (min (length g.order.now) g.places) g.room (sym e) in
     let l = p.each_long in
-    let h = form_met g.st.n g.st.marks g.order.now (one_row p.sizes) p.none_past (omega arith) (λ x. c.if-form-ne0.true (c.form.ensures ∙ x)) in
-    went_to ts (t ∷ f ∷ []) refl e z (sym (test_met t (f ∷ []) h))
+    let h = form_met g.st.n g.st.marks g.order.now (one_row p.sizes) p.none_past (omega arith) (failed_some _ (sym c.if-is_err.ensures.value) c.form.ensures) in
+    went_to ts (t ∷ f ∷ []) refl e refl (sym (test_met t (f ∷ []) h))
 
 pub returns-then-free_count-eq0 : goal.returns-then-free_count-eq0
 returns-then-free_count-eq0 c =
@@ -39,12 +39,11 @@ returns-then-free_count-eq0 c =
     let ts = lent_tests g.st g.store (min (length g.order.now) g.places) g.room in
     let t = form_test g.st g.order.now in
     let f = free_test g.st in
-    let e : c.lent-c.result ≡ first_of ts = rw (← c.least.ensures) c.lent-c.ensures in
-    let z = c.if-c-ne0.false in
-    let p = lent g.st g.store (min (length g.order.now) g.places) g.room (sym e ∙ z) in
+    let e : 0 ≡ first_of ts = rw (← c.least.ensures) c.in_ok-lent.ensures in
+    let p = lent g.st g.store (min (length g.order.now) g.places) g.room (sym e) in
     let l = p.each_long in
-    let h = form_passed g.st.n g.st.marks g.order.now (one_row p.sizes) p.none_past (omega arith) (sym c.form.ensures ∙ c.if-form-ne0.false) in
-    went_to ts (t ∷ f ∷ []) refl e z (past t (f ∷ []) h (sym (test_met f [] (eq-eqb _ 0 (sym c.free_count.ensures ∙ c.if-free_count-eq0.true)))))
+    let h = form_passed g.st.n g.st.marks g.order.now (one_row p.sizes) p.none_past (omega arith) (failed_none _ (sym c.if-is_err.ensures.value) c.form.ensures) in
+    went_to ts (t ∷ f ∷ []) refl e refl (past t (f ∷ []) h (sym (test_met f [] (eq-eqb _ 0 (sym c.free_count.ensures ∙ c.if-free_count-eq0.true)))))
 
 pub returns-else-free_count-eq0 : goal.returns-else-free_count-eq0
 returns-else-free_count-eq0 c =
@@ -52,9 +51,8 @@ returns-else-free_count-eq0 c =
     let ts = lent_tests g.st g.store (min (length g.order.now) g.places) g.room in
     let t = form_test g.st g.order.now in
     let f = free_test g.st in
-    let e : c.lent-c.result ≡ first_of ts = rw (← c.least.ensures) c.lent-c.ensures in
-    let z = c.if-c-ne0.false in
-    let p = lent g.st g.store (min (length g.order.now) g.places) g.room (sym e ∙ z) in
+    let e : 0 ≡ first_of ts = rw (← c.least.ensures) c.in_ok-lent.ensures in
+    let p = lent g.st g.store (min (length g.order.now) g.places) g.room (sym e) in
     let l = p.each_long in
-    let h = form_passed g.st.n g.st.marks g.order.now (one_row p.sizes) p.none_past (omega arith) (sym c.form.ensures ∙ c.if-form-ne0.false) in
-    went_to ts (t ∷ f ∷ []) refl e z (past t (f ∷ []) h (past f [] (ne_eqb _ 0 (λ x. c.if-free_count-eq0.false (c.free_count.ensures ∙ x))) none_left))
+    let h = form_passed g.st.n g.st.marks g.order.now (one_row p.sizes) p.none_past (omega arith) (failed_none _ (sym c.if-is_err.ensures.value) c.form.ensures) in
+    went_to ts (t ∷ f ∷ []) refl e refl (past t (f ∷ []) h (past f [] (ne_eqb _ 0 (λ x. c.if-free_count-eq0.false (c.free_count.ensures ∙ x))) none_left))

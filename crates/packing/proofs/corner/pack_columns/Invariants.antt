@@ -1,7 +1,7 @@
-use Prim.Native.Nat.{◌-◌, ◌*◌, ◌≤◌}
+use Prim.Native.Nat.{◌-◌, ◌*◌}
 use mathlib.Core.Path.{◌≡◌}
 use mathlib.Core.List.{◌++◌}
-use lib.ListN.{length, take, drop}
+use lib.ListN.{take, drop}
 use Rattle.leaves.specs.Square.{uppers_from, uppers_of}
 use Rattle.leaves.specs.Triangle.{columns}
 use Rattle.reduce.specs.Reduced.{flat}
@@ -9,7 +9,4 @@ use Rattle.packing.proofs.Corners.{triangle}
 use Rattle.packing.proofs.corner.pack_columns.Given as goal
 
 abbrev pub invariant-loop-k : goal.invariant-loop-k
-invariant-loop-k l = (l.k ≤ l.n) × (l.a ≡ l.k * l.n) × (l.b ≡ triangle l.k) × (length l.corner ≡ length l.initial.corner) × (take l.b l.corner ++ flat (uppers_from l.k (columns l.n (l.n - l.k) (drop l.a l.square))) ≡ flat (uppers_of l.n l.square))
-
-abbrev pub decreases-loop-k : goal.decreases-loop-k
-decreases-loop-k l = l.n - l.k
+invariant-loop-k l = (l.a ≡ l.k * l.n) × (l.b ≡ triangle l.k) × (take l.b l.corner ++ flat (uppers_from l.k (columns l.n (l.n - l.k) (drop l.a l.square))) ≡ flat (uppers_of l.n l.square))

@@ -24,4 +24,4 @@ pub returns : goal.returns
 returns c =
     let g = c.args in
     let p = c.requires in
-    pack_laid g.n g.store.now g.room.now _ _ p.n_nonzero.1 p.room_len c.pack_columns.ensures c.copy_of.ensures
+    pack_laid g.n g.store.now g.room.now _ _ p.n_nonzero.1 p.room_len c.pack_columns.ensures c.copy_from_slice.ensures.after

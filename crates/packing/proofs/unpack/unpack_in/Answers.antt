@@ -28,4 +28,4 @@ returns c =
     let p = c.requires in
     let f = p.n_nonzero.1.fits in
     let l = c.unpack_columns.auto.square ∙ length-take-le (g.n * g.n) g.store.now (omega arith) in
-    unpack_laid g.n g.room.now g.store.now _ _ _ p.n_nonzero.1 p.room_len l c.unpack_columns.ensures c.copy_of.ensures c.fill.ensures
+    unpack_laid g.n g.room.now g.store.now _ _ _ p.n_nonzero.1 p.room_len l c.unpack_columns.ensures c.copy_from_slice.ensures.after c.fill.ensures

@@ -1,16 +1,15 @@
-use Rattle.reduce.proofs.Lent.{passed}
+use Rattle.std.proofs.lemmas.Result.{err_from_is_err_and}
+use Rattle.reduce.proofs.Lent.{lengths}
 use Rattle.reduce.proofs.Filled.{filled_refuses}
 use Rattle.reduce.proofs.bench.reduce_filled.Goals as goal
 
-pub returns-then-c-ne0 : goal.returns-then-c-ne0
-returns-then-c-ne0 c =
+pub returns-in_err-check : goal.returns-in_err-check
+returns-in_err-check c =
     let g = c.args in
-    filled_refuses g.m g.n g.norms.now g.diag.now g.order.now g.bench.now _ c.check-c.ensures c.if-c-ne0.true
+    let p = err_from_is_err_and c.from_residual.result c.from_residual.ensures.1 in
+    rw (p.1, p.2) (filled_refuses g.m g.n g.norms.now g.diag.now g.order.now g.bench.now _ c.in_err-check.ensures)
 
 pub reduce_whole-requires : goal.reduce_whole-requires
 reduce_whole-requires c =
-    let l = passed c.check-c.ensures c.if-c-ne0.false in
+    let l = lengths _ _ _ _ _ _ _ _ c.in_ok-check.ensures in
     record { n_value = l.sizes; norms_len = l.norms_long; diag_len = l.diag_long; order_len = l.order_long; bench_len = l.bench_long }
-
-pub returns : goal.returns
-returns c = c.reduce_whole.ensures

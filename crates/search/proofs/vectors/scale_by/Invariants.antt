@@ -1,13 +1,9 @@
-use Prim.Native.Nat.{◌-◌, ◌≤◌}
 use mathlib.Core.Path.{◌≡◌}
-use lib.ListN.{length, take}
+use lib.ListN.{take}
 use Rattle.leaves.specs.Vector.{scale_all}
 use Rattle.leaves.proofs.Folds.{front}
 use Rattle.factor.specs.Solve.{gather}
 use Rattle.search.proofs.vectors.scale_by.Given as goal
 
 abbrev pub invariant-loop-k : goal.invariant-loop-k
-invariant-loop-k l = (l.k ≤ length l.initial.w) × (length l.w ≡ length l.initial.w) × (l.w ≡ front l.k (gather (take (length l.initial.w) l.order) (scale_all l.a l.x)) l.initial.w)
-
-abbrev pub decreases-loop-k : goal.decreases-loop-k
-decreases-loop-k l = length l.initial.w - l.k
+invariant-loop-k l = l.w ≡ front l.k (gather (take l.order.n l.order.places.now) (scale_all l.a l.x)) l.initial.w

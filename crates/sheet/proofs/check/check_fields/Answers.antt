@@ -9,14 +9,11 @@ returns-then-unknown_call c = sym (test_met _ _ (sym c.unknown_call.ensures ∙ 
 pub returns-then-outside : goal.returns-then-outside
 returns-then-outside c = past _ _ (sym c.unknown_call.ensures ∙ c.if-unknown_call.false) (sym (test_met _ _ (sym c.outside.ensures ∙ c.if-outside.true)))
 
-pub count_of-requires : goal.count_of-requires
-count_of-requires c = sym c.outside.ensures ∙ c.if-outside.false
-
-pub returns-then-len-count_of : goal.returns-then-len-count_of
-returns-then-len-count_of c = past _ _ (sym c.unknown_call.ensures ∙ c.if-unknown_call.false) (past _ _ (sym c.outside.ensures ∙ c.if-outside.false) (sym (test_met _ _ (length_off c.args.h _ _ c.count_of.ensures.0 c.if-len-count_of.true))))
+pub returns-then-len-k : goal.returns-then-len-k
+returns-then-len-k c = past _ _ (sym c.unknown_call.ensures ∙ c.if-unknown_call.false) (past _ _ (sym c.outside.ensures ∙ c.if-outside.false) (sym (test_met _ _ (length_off c.args.h _ _ c.count-k.ensures.0 c.if-len-k.true))))
 
 pub returns-then-room-n : goal.returns-then-room-n
-returns-then-room-n c = past _ _ (sym c.unknown_call.ensures ∙ c.if-unknown_call.false) (past _ _ (sym c.outside.ensures ∙ c.if-outside.false) (sym (test_met _ _ (step_short c.args.h _ _ c.count_of.ensures.0 c.if-len-count_of.false c.if-room-n.true))))
+returns-then-room-n c = past _ _ (sym c.unknown_call.ensures ∙ c.if-unknown_call.false) (past _ _ (sym c.outside.ensures ∙ c.if-outside.false) (sym (test_met _ _ (step_short c.args.h _ _ c.count-k.ensures.0 c.if-len-k.false c.if-room-n.true))))
 
 pub returns : goal.returns
-returns c = past _ _ (sym c.unknown_call.ensures ∙ c.if-unknown_call.false) (past _ _ (sym c.outside.ensures ∙ c.if-outside.false) (past _ _ (lengths_met c.args.h _ _ c.count_of.ensures.0 c.if-len-count_of.false c.if-room-n.false) none_left))
+returns c = past _ _ (sym c.unknown_call.ensures ∙ c.if-unknown_call.false) (past _ _ (sym c.outside.ensures ∙ c.if-outside.false) (past _ _ (lengths_met c.args.h _ _ c.count-k.ensures.0 c.if-len-k.false c.if-room-n.false) none_left))

@@ -1,7 +1,6 @@
 use Rattle.leaves.proofs.Refusals.{test_met, past, none_left}
 use mathlib.Core.Path.{sym, ap, ◌∙◌}
 use mathlib.Core.Bool.{not}
-use lib.Seq.{length-take-le}
 use lib.Ieee.{of_bits}
 use Rattle.sheet.proofs.check.check_search.Goals as goal
 
@@ -12,9 +11,6 @@ returns-then-radius c = sym (test_met _ _ c.if-radius.true)
 pub returns-then-lambda : goal.returns-then-lambda
 unfolding of_bits
 returns-then-lambda c = past _ _ c.if-radius.false (sym (test_met _ _ c.if-lambda.true))
-
-pub slice_bounds-none_zero-end : goal.slice_bounds-none_zero-end
-slice_bounds-none_zero-end c = sym (length-take-le c.args.n c.args.diag.now c.requires)
 
 pub returns-then-none_zero : goal.returns-then-none_zero
 unfolding of_bits

@@ -1,5 +1,6 @@
+use native.Mathlib.Omega.{arith}
 use Rattle.sheet.proofs.Packed.{head_is}
 use Rattle.sheet.proofs.head.head_of.Goals as goal
 
 pub returns : goal.returns
-returns c = head_is c.args.s.now _ _ c.requires c.size-b1.ensures.0 c.size-b2.ensures.0 c.size-b1.ensures.1 c.size-b2.ensures.1
+returns c = head_is c.args.s.now c.requires (omega (arith, c.type_inv.s 1)) (omega (arith, c.type_inv.s 2))

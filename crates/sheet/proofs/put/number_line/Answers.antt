@@ -1,3 +1,4 @@
+use Rattle.std.proofs.Common.{rules}
 use native.Mathlib.Omega.{arith}
 use mathlib.Core.List.{[], ◌∷◌, ◌++◌}
 use lib.ListN.{length-append}
@@ -13,8 +14,8 @@ returns c =
     let n = length-append g.name.now (32 ∷ []) in
     let s = decimal_short g.n in
     let k = length-append name d in
-    let a = lands_next name d g.out.now g.at c.put_name-p.ensures.out_after c.decimal-q.ensures (omega arith) in
-    let b = lands_next (name ++ d) (10 ∷ []) g.out.now g.at a c.bytes.ensures (omega arith) in
-    let e = behind ((name ++ d) ++ (10 ∷ [])) g.out.now g.at b in
+    let a = lands_next name d g.page.now.out.now g.page.now.at c.put_name.ensures.out_after c.decimal.ensures.wrote (omega arith) in
+    let b = lands_next (name ++ d) (10 ∷ []) g.page.now.out.now g.page.now.at a c.bytes.ensures.wrote (omega arith) in
+    let e = behind ((name ++ d) ++ (10 ∷ [])) g.page.now.out.now g.page.now.at b in
     let f = length-append (name ++ d) (10 ∷ []) in
-    record { out_after = b; upper_bound = omega arith }
+    record { out_after = b; upper_bound = omega arith; same_out = search rules }

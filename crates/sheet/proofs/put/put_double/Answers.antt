@@ -1,3 +1,4 @@
+use Rattle.std.proofs.Common.{rules}
 use native.Mathlib.Omega.{arith}
 use mathlib.Core.Path.{◌∙◌}
 use mathlib.Core.List.{[], ◌∷◌, ◌++◌}
@@ -11,6 +12,6 @@ pub returns : goal.returns
 returns c =
     let g = c.args in
     let n = digits-length 16 16 c.bits_of.result in
-    let a = lands (digits 16 16 c.bits_of.result) g.out.now g.at c.word-p.ensures (omega arith) in
-    let b = lands_next (digits 16 16 c.bits_of.result) (10 ∷ []) g.out.now g.at a c.bytes.ensures (omega arith) in
-    record { out_after = rw c.bits_of.ensures at b; value = behind (digits 16 16 c.bits_of.result ++ (10 ∷ [])) g.out.now g.at b ∙ rw (length-append, digits-length) (omega arith) }
+    let a = lands (digits 16 16 c.bits_of.result) g.page.now.out.now g.page.now.at c.word.ensures.wrote (omega arith) in
+    let b = lands_next (digits 16 16 c.bits_of.result) (10 ∷ []) g.page.now.out.now g.page.now.at a c.bytes.ensures.wrote (omega arith) in
+    record { out_after = rw c.bits_of.ensures at b; value = behind (digits 16 16 c.bits_of.result ++ (10 ∷ [])) g.page.now.out.now g.page.now.at b ∙ rw (length-append, digits-length) (omega arith); same_out = search rules }

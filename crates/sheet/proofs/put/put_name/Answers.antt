@@ -1,3 +1,4 @@
+use Rattle.std.proofs.Common.{rules}
 use native.Mathlib.Omega.{arith}
 use mathlib.Core.Path.{◌∙◌}
 use mathlib.Core.List.{[], ◌∷◌, ◌++◌}
@@ -8,6 +9,6 @@ use Rattle.sheet.proofs.put.put_name.Goals as goal
 pub returns : goal.returns
 returns c =
     let g = c.args in
-    let a = lands g.name.now g.out.now g.at c.bytes-p.ensures (omega arith) in
-    let b = lands_next g.name.now (32 ∷ []) g.out.now g.at a c.bytes.ensures (omega arith) in
-    record { out_after = b; value = behind (g.name.now ++ (32 ∷ [])) g.out.now g.at b ∙ rw length-append (omega arith) }
+    let a = lands g.name.now g.page.now.out.now g.page.now.at c.bytes.ensures.wrote (omega arith) in
+    let b = lands_next g.name.now (32 ∷ []) g.page.now.out.now g.page.now.at a c.bytes-2.ensures.wrote (omega arith) in
+    record { out_after = b; value = behind (g.name.now ++ (32 ∷ [])) g.page.now.out.now g.page.now.at b ∙ rw length-append (omega arith); same_out = search rules }

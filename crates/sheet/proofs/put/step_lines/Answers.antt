@@ -1,25 +1,19 @@
-use borrow.Author.Rules.{rules}
-use native.Mathlib.Omega.{arith}
-use mathlib.Core.Path.{refl, ◌∙◌}
-use Rattle.sheet.proofs.Texts.{step_turn, step_end}
+use Rattle.std.proofs.Common.{arith, rules, ◌∙◌}
+use Rattle.sheet.proofs.Texts.{as_long, step_turn, step_end}
 use Rattle.sheet.proofs.put.step_lines.Goals as goal
 
-pub loop-i-init : goal.loop-i-init
-loop-i-init c = (search rules, refl, omega arith, refl)
-
-pub step_line-p-requires : goal.step_line-p-requires
-step_line-p-requires c = omega arith
+pub step_line-requires : goal.step_line-requires
+step_line-requires c = let l = c.loop-i in omega (arith, l.invariant.0, l.invariant.1)
 
 pub loop-i-preserved : goal.loop-i-preserved
 loop-i-preserved c =
     let l = c.loop-i in
-    let g = c.args in
-    let k = c.step_line-p in (
+    let k = c.step_line.ensures in (
+      omega (arith, k.upper_bound),
+      as_long _ _ _ k.out_after ∙ l.invariant.1,
+      step_turn c.args.step.now l.page.out.now l.page.at l.i c.loop-i-test.true k.out_after l.invariant.2,
       search rules,
-      k.auto.out ∙ l.invariant.1,
-      omega (arith, k.ensures.upper_bound, l.invariant.2),
-      step_turn g.step.now l.out l.p l.i c.loop-i-test.true k.ensures.out_after l.invariant.3,
     )
 
-pub returns : goal.returns
-returns c = record { out_after = step_end c.args.step.now c.loop-i.out c.loop-i.p c.loop-i.i c.loop-i-test.false c.loop-i.invariant.3; upper_bound = omega (arith, c.loop-i.invariant.2) }
+pub returns-clause-out_after : goal.returns-clause-out_after
+returns-clause-out_after c = let l = c.loop-i in step_end c.args.step.now l.page.out.now l.page.at l.i c.loop-i-test.false l.invariant.2

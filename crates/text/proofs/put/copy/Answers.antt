@@ -1,17 +1,9 @@
-use native.Mathlib.Nat.{add-zero}
-use mathlib.Core.Path.{refl}
-use native.Mathlib.Omega.{arith}
-use lib.ListN.{length-set}
-use Rattle.text.proofs.Places.{copy_turn, copy-end}
+use Rattle.std.proofs.Common.{arith, refl, sym, take, append_assoc, ◌∙◌}
+use Rattle.std.proofs.lemmas.List.Edits.{paste_all, sets-eq}
+use Rattle.std.proofs.lemmas.Slice.{put_mid-paste}
 use Rattle.text.proofs.put.copy.Goals as goal
 
-pub loop-i-init : goal.loop-i-init
-loop-i-init c = (omega arith, refl, rw add-zero)
-
-pub loop-i-preserved : goal.loop-i-preserved
-loop-i-preserved c =
-    let l = c.loop-i in
-    (omega arith, simp length-set l.invariant.1, copy_turn _ l.out _ _ _ c.loop-i-test.true l.invariant.2)
-
 pub returns : goal.returns
-returns c = let l = c.loop-i in copy-end _ l.out _ _ _ c.loop-i-test.false l.invariant.2
+returns c =
+    let g = c.args in
+    put_mid-paste _ _ _ _ _ _ c.copy_from_slice.ensures.after (omega arith) refl ∙ (paste_all g.out.now g.at g.src.now _ refl ∙ sym (sets-eq g.src.now g.out.now g.at c.requires ∙ append_assoc (take g.at g.out.now) g.src.now _))

@@ -1,5 +1,0 @@
-use Rattle.leaves.proofs.Folds.{copy_leaves}
-use Rattle.factor.proofs.wrap.copy_of.Goals as goal
-
-pub returns : goal.returns
-returns c = copy_leaves _ _ _ c.requires c.copy.ensures

@@ -1,7 +1,0 @@
--- `replay::junk::doubles` is safe and ends. The measure is what is left of the numbers. Assumes nothing.
--- The measure is what is left of the numbers.
-use Rattle.std.proofs.Common.{◌-◌}
-use Rattle.replay.proofs.junk.doubles.Given as goal
-
-abbrev pub decreases-loop-i : goal.decreases-loop-i
-decreases-loop-i l = l.len - l.i
