@@ -1,5 +1,5 @@
-// 02, #108: the way from a lent problem to the one without the frozen columns, and back. What is lent here has its exact length, so that there
-// is no refusal.
+// 02, #108: the way from a lent problem to the one without the frozen columns, and back. What is lent here is long enough, so that there is no
+// refusal.
 ghost use Rattle.std.specs.Prelude.{◌≡◌, ◌≤◌, length, take, replicate};
 ghost use Rattle.leaves.specs.Number.{one};
 ghost use Rattle.leaves.specs.Square.{zeros};

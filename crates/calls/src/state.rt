@@ -31,7 +31,7 @@ pub(crate) fn with_held(st: State, held: Held) -> State
     State { held, ..st }
 }
 
-// A state that knows no marks, and marks.
+// A state that knows no marks, and marks: two things, so no `From`.
 pub(crate) fn marked(marks: u16, st: factor::state::State) -> State
     ensures { result ≡ marked_state marks st }
 {

@@ -85,7 +85,7 @@ fn run_leaf(leaf: Leaf, s: &[u8]) -> Option<Answer> {
     }
 }
 
-// The leaf's number in the counts, 13 for none.
+// The leaf's place in the counts, which are one array, 13 for none.
 pub(crate) fn kind(op: u8) -> usize {
     match Leaf::try_from(op) {
         Ok(leaf) => leaf as usize,

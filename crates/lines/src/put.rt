@@ -34,7 +34,7 @@ pub fn row(v: &[f64], page: &mut Page<'_>)
     }
 }
 
-// `refused` and its number, with no space before it.
+// `refused` and its number, with no space before it. Any number: an enum would ask more of a caller.
 pub fn refused(k: u8, page: &mut Page<'_>)
     ensures wrote { (page.new.at, page.new.out.now) ≡ joined refusing (hex_of k) page.old.at page.old.out.now }
     ensures same_out { page.new.out.ghost_name ≡ page.old.out.ghost_name }

@@ -5,7 +5,8 @@ use factor::state::State;
 use leaves::sizes::filled;
 
 // A problem with its rooms, which goes from call to call by value: a call that is lent many slices at once takes the proof check long. The
-// largest problem is 10 by 5: a store of 45 numbers, a bench of 60. `out` is what the last call wrote, and `good` whether it was not refused.
+// largest problem is 10 by 5: a store of 45 numbers, a bench of 60. `out` is what the last call wrote, and `good` whether it was not
+// refused: a flag, since what a refused call left is looked at too.
 #[derive(Clone, Copy)]
 pub(crate) struct Side {
     pub(crate) state: State,

@@ -20,7 +20,7 @@ const FULL_THIN: [f64; 16] = [
 // The wide problem takes the first two.
 const B: [f64; 4] = [7.0, -5.0, 0.0, 0.0];
 
-// Both problems, and whether all that was compared so far is alike.
+// Both problems, and whether all that was compared so far is alike: a flag, since the problems go on either way.
 #[derive(Clone, Copy)]
 struct Pair {
     one: Side,

@@ -1,5 +1,5 @@
 // The bits of a counter fill the first len numbers of a room: no call may come to rely on a clean one. Each function answers the counter
-// after the last.
+// after the last. Two functions: how a number is made of the counter is what they differ in.
 use text::double::of_bits;
 
 // The oracle's step: 2^64 over the golden ratio.

@@ -35,7 +35,7 @@ fn told(
 impl TrustRegion<'_, '_> {
     ghost use Rattle.search.specs.inner.Asked.{asked, room, Kept};
 
-    // At most ten trials. The step that is answered stands in w.
+    // At most ten trials: a `loop` left by `break` at each stop rule, the form that document 01 names. The step that is answered stands in w.
     pub(crate) fn trials(&mut self, first: Going) -> Result<(LMParameter, Ranges), Refusal>
         ensures kept { Kept self.old self.new }
         ensures w_after { with_step result (placed (asked self.old) self.new.w.now) ≡ concluded 0 unanswered (trials_from (asked self.old) 9 (next_of first)) }

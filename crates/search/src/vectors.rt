@@ -10,7 +10,7 @@ ghost use Rattle.search.specs.inner.Read.{turned_by};
 use leaves::lent::Order;
 use leaves::norm::{Normed, enorm};
 
-// The norm of so few numbers is never refused.
+// The norm of so few numbers is never refused. Once here, for five callers.
 pub(crate) fn norm_of(v: &[f64]) -> Normed
     requires { length v.now ≤ 128 }
     ensures value_value { result.value ≡ norm v.now }

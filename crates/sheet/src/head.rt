@@ -2,6 +2,7 @@
 ghost use Rattle.std.specs.Prelude.{◌≡◌, ◌≤◌, length};
 ghost use Rattle.sheet.specs.Sheet.{head_of};
 
+// call: the number as it stands in the sheet, since an unknown one is refused by it and `lasts` and `task_of` speak of it.
 #[derive(Clone, Copy)]
 pub struct Head {
     pub version: u8,

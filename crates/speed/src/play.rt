@@ -6,7 +6,8 @@ use leaves::sizes::filled;
 use lines::part::within;
 use std::num::{wrapping_add_usize, wrapping_sub_usize};
 
-// How many problems are made. Of the drawn columns the first n are factored, those with a mark frozen.
+// How many problems are made. Of the drawn columns the first n are factored, those with a mark frozen. mode: a number, since every number does
+// something.
 #[derive(Clone, Copy)]
 pub(crate) struct Task {
     pub(crate) m: usize,
