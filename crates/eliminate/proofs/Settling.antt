@@ -145,9 +145,6 @@ module _ (n j : ℕ) (ds s₀ s s₁ s₂ bs bs₁ ldiag : List Float) (v old : 
         above = w.above ∙ t.above ∙ i.above;
       }
 
-pub settle_none : (n : ℕ) (ds s bs ldiag : List Float) → Settling n 0 ds s s bs ldiag (eliminated ds (edges_of n s) bs)
-settle_none n ds s bs ldiag = record { first = refl; rows = refl; diagonal = refl; right = refl; above = refl }
-
 -- LAW: all rows put away
 pub settle_done : (n j : ℕ) (ds s₀ s bs ldiag : List Float) {x : Rows} → n ≤ j → length ds ≡ n → length bs ≡ n → length ldiag ≡ n
     → Settling n j ds s₀ s bs ldiag x → Settles n s₀ s bs ldiag x

@@ -1,8 +1,8 @@
 -- Lᵀ·x from the last place down: the damped solve after elimination. Assumes nothing.
 use mathlib.Core.Path.{◌≡◌, refl, sym, ap, ◌∙◌}
 use mathlib.Core.List.{List, [], ◌∷◌, ◌++◌}
-use Prim.Native.Nat.{ℕ, zero, suc, ◌+◌, ◌-◌, ◌*◌, ◌<◌, ◌≤◌}
-use native.Mathlib.Nat.{le_refl, not-suc-le-zero}
+use Prim.Native.Nat.{ℕ, suc, ◌+◌, ◌-◌, ◌*◌, ◌<◌, ◌≤◌}
+use native.Mathlib.Nat.{le_refl}
 use native.Mathlib.Numerals.{add-one}
 use native.Mathlib.Omega.{arith}
 use lib.ListN.{length, get_or, take, drop, set, length-take, length-drop, drop_of_length-le, take-append-drop, get_or-append}
@@ -93,11 +93,6 @@ module _ (ds : List Float) (ls : List (List Float)) (ws : List Float) (full : �
       let b : take (full - suc j) (drop (suc j) w) ≡ xs = ap (λ (x : List Float). take (full - suc j) (drop (suc j) x)) v ∙ ap (take (full - suc j)) (drop_at (take (suc j) ws) (xs ++ drop full ws) (suc j) p) ∙ take_at xs (drop full ws) (full - suc j) (done_length (suc j)) in
       let u : w ≡ take j ws ++ (get_or ws j nan ∷ (xs ++ drop full ws)) = v ∙ ap (λ (x : List Float). x ++ (xs ++ drop full ws)) (take-suc ws j nan (omega arith)) ∙ append_snoc (take j ws) (get_or ws j nan) (xs ++ drop full ws) in
       f ∙ rw (a, b) (rw (u, set_at (take j ws) (get_or ws j nan) (xs ++ drop full ws) (div binary64 (sub binary64 (get_or ws j nan) (dot_of (take (full - suc j) (get_or ls j [])) xs)) (get_or ds j nan)) j r, done_cons j h))
-
-pub back_end : (ds : List Float) (ls : List (List Float)) (ws w : List Float) (full j : ℕ) → j ≤ 0 → w ≡ backed ds ls ws full j
-    → w ≡ backward (take full ds) (take full ls) (take full ws) ++ drop full ws
-back_end ds ls ws w full zero h e = e
-back_end ds ls ws w full (suc j) h e = absurd (not-suc-le-zero h)
 
 pub damped_law : (n k : ℕ) (ds : List Float) (ls : List (List Float)) (w w₁ w₂ : List Float) → length ds ≡ n → length ls ≡ n → length w ≡ n → k ≡ rank ds
     → w₁ ≡ take k w ++ zeros (length w - k) → w₂ ≡ backward (take k ds) (take k ls) (take k w₁) ++ drop k w₁ → w₂ ≡ damped_solved ds ls w

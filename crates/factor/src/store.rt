@@ -33,7 +33,7 @@ pub struct LinearLeastSquaresDiagonalProblem<'a> {
 
 impl LinearLeastSquaresDiagonalProblem<'_> {
     // The same store, to be read.
-    pub fn lent(&self) -> Store<'_>
+    pub(crate) fn lent(&self) -> Store<'_>
         ensures n { result.n ≡ self.now.n }
         ensures cells { result.cells.now ≡ self.now.cells.now }
     {

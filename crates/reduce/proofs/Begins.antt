@@ -46,10 +46,6 @@ pub measured_next : (cs : List (List Float)) (k : ℕ) (seen : Ranges) → k < l
 measured_next cs k seen h e = ap (λ (x : Ranges). either x (ranges (get_or cs k []))) e ∙ sym (ranges_of_last (take k cs) (get_or cs k [])) ∙ ap ranges_of (sym (take-suc cs k [] h)) ∙ rw add-one refl
 
 -- ---- the columns of a bench
--- a call that keeps the bench's length leaves a bench
-pub kept-bench : {m n : ℕ} {b b' : List Float} → Benched m n b → length b' ≡ length b → Benched m n b'
-kept-bench h e = record { rows = h.rows; across = h.across; whole = e ∙ h.whole }
-
 pub bench-wide : (m n : ℕ) (s : List Float) → length (take n (grid m n s)) ≡ n
 bench-wide m n s = length-take-le n (grid m n s) (let l = columns-length m (suc n) s in omega arith)
 

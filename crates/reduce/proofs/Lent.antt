@@ -2,12 +2,12 @@
 use mathlib.Core.Path.{◌≡◌, refl, sym, ap, subst, ◌∙◌}
 use mathlib.Core.Bool.{false, ◌&&◌, and-eq-true_iff}
 use mathlib.Core.List.{List, [], ◌∷◌, ◌++◌, map, append_assoc}
-use Prim.Native.Nat.{ℕ, zero, suc, ◌+◌, ◌*◌, ◌<◌, ◌≤◌, min}
+use Prim.Native.Nat.{ℕ, zero, suc, ◌+◌, ◌*◌, ◌<◌, min}
 use native.Mathlib.Nat.{suc-mul, zero-mul, add_comm, mul_comm, le_refl, le_of_eq}
 use native.Mathlib.Omega.{arith}
 use lib.Dec.{eqb}
 use lib.ListN.{length, get_or, take, drop, length-append}
-use lib.Seq.{length-take-le, length_front, take_at, drop_at, take-add, take_all}
+use lib.Seq.{take_at, drop_at, take-add, take_all}
 use lib.Ieee.{Float}
 use borrow.Author.Tests.{eqb-true, eq-eqb, ne_eqb, not-false}
 use Rattle.leaves.specs.Reply.{Reply, answered, refused, refusal_number}
@@ -78,17 +78,6 @@ module _ (m n jac res norms diag order bench : ℕ) where
 
 pub benched : {m n : ℕ} (b : List Float) → Inside m n → length b ≡ m * n + m → Benched m n b
 benched {m = m} {n = n} b i h = record { rows = i.rows_few; across = i.cols_few; whole = h ∙ ap (λ (k : ℕ). k + m) (mul_comm m n) ∙ sym (suc-mul n m) }
-
--- ---- scratch for n numbers at the front of a longer room, lent once and lent again
-module _ (n : ℕ) (w room : List Float) (f : n ≤ length room) (e : length w ≡ length (take n room)) where
-  pub front_in : n ≤ length (w ++ drop n room)
-  front_in = let l = length_front room w n e in omega arith
-
-  pub front_again : take n (w ++ drop n room) ≡ w
-  front_again = take_at w (drop n room) n (e ∙ length-take-le n room f)
-
-  pub front_long : length (take n (w ++ drop n room)) ≡ n
-  front_long = ap length front_again ∙ e ∙ length-take-le n room f
 
 -- ---- columns one after the other, and read back
 flat-columns : (m k : ℕ) (s : List Float) → flat (columns m k s) ≡ take (k * m) s

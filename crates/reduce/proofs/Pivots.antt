@@ -7,7 +7,7 @@ use native.Mathlib.Nat.{not-suc-le-zero, le_of_suc-le-suc, le_refl}
 use native.Mathlib.Omega.{arith}
 use lib.Dec.{eqb}
 use lib.ListN.{length, get_or, take, drop, set, length-set, length-map}
-use lib.Seq.{get_or-take, get_or-set_same, get_or-set_other, take-set-lt, take-set-le, set-get_or, set-set, set_comm}
+use lib.Seq.{get_or-take, get_or-set_same, get_or-set_other, take-set-lt, take-set-le, set-set, set_comm}
 use lib.Ieee.{Float, nan, neg, lt, eq}
 use borrow.Author.Tests.{eq-eqb, ne_eqb, eqb-true, eqb-false}
 use Rattle.leaves.specs.Number.{plus_zero}
@@ -86,9 +86,6 @@ front_here (z ∷ zs) (y ∷ ys) zero h k = refl
 front_here (z ∷ zs) (y ∷ ys) (suc i) h k = front_here zs ys i (le_of_suc-le-suc h) (le_of_suc-le-suc k)
 
 module _ (j k : ℕ) (g : List (List Float)) (hj : j < k) (hk : k < length g) where
-  pub fronts_none : g ≡ fronts j k 0 g
-  fronts_none = sym (rw (set-get_or g j [], set-get_or g k []))
-
   pub fronts_turn : (i : ℕ) → i < length (get_or g j []) → i < length (get_or g k []) → swap_place j k i (fronts j k i g) ≡ fronts j k (suc i) g
   unfolding swap_place
   fronts_turn i ha hb =

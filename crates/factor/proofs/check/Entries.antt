@@ -4,15 +4,11 @@ use mathlib.Core.Bool.{Bool, true, false, not, ◌&&◌, and-true, and-false}
 use mathlib.Core.List.{List, [], ◌∷◌}
 use Prim.Native.Nat.{ℕ, zero, suc, ◌+◌, ◌<◌, ◌≤◌}
 use native.Mathlib.Numerals.{add-one}
-use native.Mathlib.Omega.{arith}
 use lib.Dec.{eqb}
-use lib.ListN.{length, get_or, take, drop, set, replicate, length-take, drop_of_length-le}
+use lib.ListN.{length, get_or, take, drop, set, replicate, drop_of_length-le}
 use lib.Seq.{drop-cons, get_or-set_same, get_or-set_other}
 use borrow.Author.Tests.{lt-ltb, le-ltb, eqb-true, eqb-false}
 use Rattle.factor.specs.Tests.{absent, distinct_below, is_permutation}
-
-left_none : {A : Type 0} (v : List A) (n i : ℕ) → n ≤ i → drop i (take n v) ≡ []
-left_none v n i h = drop_of_length-le (take n v) {i = i} (omega (arith, length-take n v))
 
 -- ---- 4: each entry below n, and none twice, with a mark at each number that was met
 unfoldable pub unmet : List Bool → List ℕ → Bool
