@@ -68,20 +68,20 @@ pub line-one_outcome : (κs : Lfts 2) (a : ArgsD feed-line-signature κs) (r₁ 
 line-one_outcome κs a r₁ r₂ s₁ s₂ p q = let e = p ∙ sym q in (ap (λ (x : Fed × List ℕ). x.0) e, ap (λ (x : Fed × List ℕ). x.1) e)
 
 pub number-one_outcome : (κs : Lfts 2) (a : ArgsD put-number-signature κs) (r₁ r₂ : Unit) (s₁ s₂ : AtExit (ended_of 2 put-number-kinds.ps put-number-kinds.r) κs) → put-number.Post κs a r₁ s₁ → put-number.Post κs a r₂ s₂
-    → (s₁.1.0.now.at ≡ s₂.1.0.now.at) × (s₁.1.0.now.out.now ≡ s₂.1.0.now.out.now)
-number-one_outcome κs a r₁ r₂ s₁ s₂ p q = let e = p.0 ∙ sym q.0 in (ap (λ (x : ℕ × List ℕ). x.0) e, ap (λ (x : ℕ × List ℕ). x.1) e)
+    → (s₁.1.0.now.at ≡ s₂.1.0.now.at) × (s₁.1.0.now.out.now ≡ s₂.1.0.now.out.now) × (s₁.1.0.now.out.ghost_name ≡ s₂.1.0.now.out.ghost_name)
+number-one_outcome κs a r₁ r₂ s₁ s₂ p q = let e = p.0 ∙ sym q.0 in (ap (λ (x : ℕ × List ℕ). x.0) e, ap (λ (x : ℕ × List ℕ). x.1) e, p.1 ∙ sym q.1)
 
 pub double-one_outcome : (κs : Lfts 2) (a : ArgsD put-double-signature κs) (r₁ r₂ : Unit) (s₁ s₂ : AtExit (ended_of 2 put-double-kinds.ps put-double-kinds.r) κs) → put-double.Post κs a r₁ s₁ → put-double.Post κs a r₂ s₂
-    → (s₁.1.0.now.at ≡ s₂.1.0.now.at) × (s₁.1.0.now.out.now ≡ s₂.1.0.now.out.now)
-double-one_outcome κs a r₁ r₂ s₁ s₂ p q = let e = p.0 ∙ sym q.0 in (ap (λ (x : ℕ × List ℕ). x.0) e, ap (λ (x : ℕ × List ℕ). x.1) e)
+    → (s₁.1.0.now.at ≡ s₂.1.0.now.at) × (s₁.1.0.now.out.now ≡ s₂.1.0.now.out.now) × (s₁.1.0.now.out.ghost_name ≡ s₂.1.0.now.out.ghost_name)
+double-one_outcome κs a r₁ r₂ s₁ s₂ p q = let e = p.0 ∙ sym q.0 in (ap (λ (x : ℕ × List ℕ). x.0) e, ap (λ (x : ℕ × List ℕ). x.1) e, p.1 ∙ sym q.1)
 
 pub row-one_outcome : (κs : Lfts 3) (a : ArgsD put-row-signature κs) (r₁ r₂ : Unit) (s₁ s₂ : AtExit (ended_of 3 put-row-kinds.ps put-row-kinds.r) κs) → put-row.Post κs a r₁ s₁ → put-row.Post κs a r₂ s₂
-    → (s₁.1.0.now.at ≡ s₂.1.0.now.at) × (s₁.1.0.now.out.now ≡ s₂.1.0.now.out.now)
-row-one_outcome κs a r₁ r₂ s₁ s₂ p q = let e = p.0 ∙ sym q.0 in (ap (λ (x : ℕ × List ℕ). x.0) e, ap (λ (x : ℕ × List ℕ). x.1) e)
+    → (s₁.1.0.now.at ≡ s₂.1.0.now.at) × (s₁.1.0.now.out.now ≡ s₂.1.0.now.out.now) × (s₁.1.0.now.out.ghost_name ≡ s₂.1.0.now.out.ghost_name)
+row-one_outcome κs a r₁ r₂ s₁ s₂ p q = let e = p.0 ∙ sym q.0 in (ap (λ (x : ℕ × List ℕ). x.0) e, ap (λ (x : ℕ × List ℕ). x.1) e, p.1 ∙ sym q.1)
 
 pub refused-one_outcome : (κs : Lfts 2) (a : ArgsD put-refused-signature κs) (r₁ r₂ : Unit) (s₁ s₂ : AtExit (ended_of 2 put-refused-kinds.ps put-refused-kinds.r) κs) → Put-refused.Post κs a r₁ s₁ → Put-refused.Post κs a r₂ s₂
-    → (s₁.1.0.now.at ≡ s₂.1.0.now.at) × (s₁.1.0.now.out.now ≡ s₂.1.0.now.out.now)
-refused-one_outcome κs a r₁ r₂ s₁ s₂ p q = let e = p.0 ∙ sym q.0 in (ap (λ (x : ℕ × List ℕ). x.0) e, ap (λ (x : ℕ × List ℕ). x.1) e)
+    → (s₁.1.0.now.at ≡ s₂.1.0.now.at) × (s₁.1.0.now.out.now ≡ s₂.1.0.now.out.now) × (s₁.1.0.now.out.ghost_name ≡ s₂.1.0.now.out.ghost_name)
+refused-one_outcome κs a r₁ r₂ s₁ s₂ p q = let e = p.0 ∙ sym q.0 in (ap (λ (x : ℕ × List ℕ). x.0) e, ap (λ (x : ℕ × List ℕ). x.1) e, p.1 ∙ sym q.1)
 
 -- for every type
 module _ (T : RattleType) (L : Laws T) where

@@ -58,17 +58,17 @@ pub bits_of-one_outcome : (κs : Lfts 0) (a : ArgsD bits-of-signature κs) (r₁
 bits_of-one_outcome κs a r₁ r₂ s₁ s₂ p q = p ∙ sym q
 
 pub word-one_outcome : (κs : Lfts 2) (a : ArgsD word-signature κs) (r₁ r₂ : Unit) (s₁ s₂ : AtExit (ended_of 2 word-kinds.ps word-kinds.r) κs) → word.Post κs a r₁ s₁ → word.Post κs a r₂ s₂
-    → (s₁.0.now.at ≡ s₂.0.now.at) × (s₁.0.now.out.now ≡ s₂.0.now.out.now)
-word-one_outcome κs a r₁ r₂ s₁ s₂ p q = let e = p.0 ∙ sym q.0 in (ap (λ (x : ℕ × List ℕ). x.0) e, ap (λ (x : ℕ × List ℕ). x.1) e)
+    → (s₁.0.now.at ≡ s₂.0.now.at) × (s₁.0.now.out.now ≡ s₂.0.now.out.now) × (s₁.0.now.out.ghost_name ≡ s₂.0.now.out.ghost_name)
+word-one_outcome κs a r₁ r₂ s₁ s₂ p q = let e = p.0 ∙ sym q.0 in (ap (λ (x : ℕ × List ℕ). x.0) e, ap (λ (x : ℕ × List ℕ). x.1) e, p.1 ∙ sym q.1)
 
 pub hex-one_outcome : (κs : Lfts 2) (a : ArgsD hex-signature κs) (r₁ r₂ : Unit) (s₁ s₂ : AtExit (ended_of 2 hex-kinds.ps hex-kinds.r) κs) → hex.Post κs a r₁ s₁ → hex.Post κs a r₂ s₂
-    → (s₁.0.now.at ≡ s₂.0.now.at) × (s₁.0.now.out.now ≡ s₂.0.now.out.now)
-hex-one_outcome κs a r₁ r₂ s₁ s₂ p q = let e = p.0 ∙ sym q.0 in (ap (λ (x : ℕ × List ℕ). x.0) e, ap (λ (x : ℕ × List ℕ). x.1) e)
+    → (s₁.0.now.at ≡ s₂.0.now.at) × (s₁.0.now.out.now ≡ s₂.0.now.out.now) × (s₁.0.now.out.ghost_name ≡ s₂.0.now.out.ghost_name)
+hex-one_outcome κs a r₁ r₂ s₁ s₂ p q = let e = p.0 ∙ sym q.0 in (ap (λ (x : ℕ × List ℕ). x.0) e, ap (λ (x : ℕ × List ℕ). x.1) e, p.1 ∙ sym q.1)
 
 pub decimal-one_outcome : (κs : Lfts 2) (a : ArgsD decimal-signature κs) (r₁ r₂ : Unit) (s₁ s₂ : AtExit (ended_of 2 decimal-kinds.ps decimal-kinds.r) κs) → decimal.Post κs a r₁ s₁ → decimal.Post κs a r₂ s₂
-    → (s₁.0.now.at ≡ s₂.0.now.at) × (s₁.0.now.out.now ≡ s₂.0.now.out.now)
-decimal-one_outcome κs a r₁ r₂ s₁ s₂ p q = let e = p.0 ∙ sym q.0 in (ap (λ (x : ℕ × List ℕ). x.0) e, ap (λ (x : ℕ × List ℕ). x.1) e)
+    → (s₁.0.now.at ≡ s₂.0.now.at) × (s₁.0.now.out.now ≡ s₂.0.now.out.now) × (s₁.0.now.out.ghost_name ≡ s₂.0.now.out.ghost_name)
+decimal-one_outcome κs a r₁ r₂ s₁ s₂ p q = let e = p.0 ∙ sym q.0 in (ap (λ (x : ℕ × List ℕ). x.0) e, ap (λ (x : ℕ × List ℕ). x.1) e, p.1 ∙ sym q.1)
 
 pub bytes-one_outcome : (κs : Lfts 3) (a : ArgsD bytes-signature κs) (r₁ r₂ : Unit) (s₁ s₂ : AtExit (ended_of 3 bytes-kinds.ps bytes-kinds.r) κs) → bytes.Post κs a r₁ s₁ → bytes.Post κs a r₂ s₂
-    → (s₁.0.now.at ≡ s₂.0.now.at) × (s₁.0.now.out.now ≡ s₂.0.now.out.now)
-bytes-one_outcome κs a r₁ r₂ s₁ s₂ p q = let e = p.0 ∙ sym q.0 in (ap (λ (x : ℕ × List ℕ). x.0) e, ap (λ (x : ℕ × List ℕ). x.1) e)
+    → (s₁.0.now.at ≡ s₂.0.now.at) × (s₁.0.now.out.now ≡ s₂.0.now.out.now) × (s₁.0.now.out.ghost_name ≡ s₂.0.now.out.ghost_name)
+bytes-one_outcome κs a r₁ r₂ s₁ s₂ p q = let e = p.0 ∙ sym q.0 in (ap (λ (x : ℕ × List ℕ). x.0) e, ap (λ (x : ℕ × List ℕ). x.1) e, p.1 ∙ sym q.1)
