@@ -43,23 +43,24 @@ fn same(s: &[u8], from: usize, t: &[u8], len: usize) -> bool {
 }
 
 // Whether the line's own answer is the leaf's.
-fn agrees(s: &[u8], a: Answer) -> bool {
+fn agrees(s: &[u8], a: Answer, cells: &[f64]) -> bool {
     let mut out: [u8; 8192] = filled(0);
-    let n = within(&a.cells, a.len);
+    let n = within(cells, a.len);
     let mut page = Page {
         out: &mut out,
         at: 0,
     };
-    answer::put(a.reply, &a.cells[..n], &mut page);
+    answer::put(a.reply, &cells[..n], &mut page);
     let len = page.at;
     same(s, wrapping_add_usize(a.next, 2), &out, len)
 }
 
 // None where the line does not parse.
 fn verdict(s: &[u8]) -> Option<bool> {
-    let a = leaf::run(s)?;
+    let mut cells: [f64; 4096] = filled(0.0);
+    let a = leaf::run(s, &mut cells)?;
     if marked(s, a.next) {
-        return Some(agrees(s, a));
+        return Some(agrees(s, a, &cells));
     }
     None
 }

@@ -67,7 +67,7 @@ fn two<F: FnOnce(f64, f64) -> Reply + Drop>(s: &[u8], leaf: F) -> Option<Answer>
 }
 
 // None where its words do not read.
-fn run_leaf(leaf: Leaf, s: &[u8]) -> Option<Answer> {
+fn run_leaf(leaf: Leaf, s: &[u8], cells: &mut [f64]) -> Option<Answer> {
     match leaf {
         Leaf::Abs => one(s, |x| Reply::Number(number::abs(x))),
         Leaf::IsNegative => one(s, |x| Reply::Bit(number::is_negative(x))),
@@ -76,12 +76,12 @@ fn run_leaf(leaf: Leaf, s: &[u8]) -> Option<Answer> {
         Leaf::Sqrt => one(s, |x| Reply::Number(leaves::root::sqrt(x))),
         Leaf::Max => two(s, |a, b| Reply::Number(number::max(a, b))),
         Leaf::Min => two(s, |a, b| Reply::Number(number::min(a, b))),
-        Leaf::Dot => vectors::dot(s),
-        Leaf::Axpy => vectors::axpy(s, |c, x, y| leaves::vector::axpy(c, x, y)),
-        Leaf::AxpyZero => vectors::axpy(s, |c, x, y| leaves::vector::axpy_zero(c, x, y)),
-        Leaf::Imax => vectors::single(s, |v| leaves::vector::imax(v).map(Reply::Place)),
-        Leaf::Enorm => vectors::single(s, |v| leaves::norm::enorm(v).map(Reply::Norm)),
-        Leaf::SolveUpper => vectors::solve(s),
+        Leaf::Dot => vectors::dot(s, cells),
+        Leaf::Axpy => vectors::axpy(s, cells, |c, x, y| leaves::vector::axpy(c, x, y)),
+        Leaf::AxpyZero => vectors::axpy(s, cells, |c, x, y| leaves::vector::axpy_zero(c, x, y)),
+        Leaf::Imax => vectors::single(s, cells, |v| leaves::vector::imax(v).map(Reply::Place)),
+        Leaf::Enorm => vectors::single(s, cells, |v| leaves::norm::enorm(v).map(Reply::Norm)),
+        Leaf::SolveUpper => vectors::solve(s, cells),
     }
 }
 
@@ -94,12 +94,12 @@ pub(crate) fn kind(op: u8) -> usize {
 }
 
 // None where the line names no leaf or its words do not read.
-pub(crate) fn run(s: &[u8]) -> Option<Answer> {
+pub(crate) fn run(s: &[u8], cells: &mut [f64]) -> Option<Answer> {
     let Ok(leaf) = Leaf::try_from(byte(s, 0)) else {
         return None;
     };
     if byte(s, 1) != b' ' {
         return None;
     }
-    run_leaf(leaf, s)
+    run_leaf(leaf, s, cells)
 }

@@ -1,44 +1,38 @@
 // Document 02, #107: problems put aside, so that a script has three in turn.
 use crate::item::word;
-use crate::room::{Aside, Away, Lent, Packed, Scene};
+use crate::room::{Aside, Packed, Scene};
 use lines::scan::Unread;
 
-fn aside_of(a: Away, k: u64) -> Aside {
-    if k == 0 { a.one } else { a.two }
+fn aside_of(p: &Scene, k: u64) -> Aside {
+    if k == 0 { p.away.one } else { p.away.two }
 }
 
-fn with_aside(a: Away, k: u64, p: Aside) -> Away {
+fn put_aside(p: &mut Scene, k: u64, own: Aside) {
     if k == 0 {
-        return Away { one: p, ..a };
+        p.away.one = own;
+    } else {
+        p.away.two = own;
     }
-    Away { two: p, ..a }
 }
 
-pub(crate) fn packed_of(a: Away, k: u64) -> Packed {
+pub(crate) fn packed_of(p: &Scene, k: u64) -> Packed {
     match k {
-        0 => a.first,
-        1 => a.second,
-        _ => a.third,
+        0 => p.away.first,
+        1 => p.away.second,
+        _ => p.away.third,
     }
 }
 
-fn with_packed(a: Away, k: u64, p: Packed) -> Away {
+// A packed room in the place of another.
+pub(crate) fn keep(p: &mut Scene, k: u64, b: Packed) {
     match k {
-        0 => Away { first: p, ..a },
-        1 => Away { second: p, ..a },
-        _ => Away { third: p, ..a },
+        0 => p.away.first = b,
+        1 => p.away.second = b,
+        _ => p.away.third = b,
     }
 }
 
-// The same scene with a packed room in the place of another.
-pub(crate) fn kept(p: Scene, k: u64, b: Packed) -> Scene {
-    Scene {
-        away: with_packed(p.away, k, b),
-        ..p
-    }
-}
-
-fn own_of(p: Scene) -> Aside {
+fn own_of(p: &Scene) -> Aside {
     let store = p.store;
     let order = p.order;
     Aside {
@@ -51,28 +45,24 @@ fn own_of(p: Scene) -> Aside {
 }
 
 // Another problem lent in the place of the scene's own.
-fn of_other(p: Scene, other: Aside, away: Away) -> Scene {
+fn lend_other(p: &mut Scene, other: Aside) {
     let store = other.store;
     let order = other.order;
-    Scene {
-        store,
-        order,
-        lent: Lent {
-            store: other.len,
-            order: other.count,
-            ..p.lent
-        },
-        state: other.state,
-        away,
-        ..p
-    }
+    p.store = store;
+    p.order = order;
+    p.lent.store = other.len;
+    p.lent.order = other.count;
+    p.state = other.state;
 }
 
-pub(crate) fn exchange(s: &[u8], p: Scene) -> Result<Scene, Unread> {
+pub(crate) fn exchange(s: &[u8], p: &mut Scene) -> Result<(), Unread> {
     let k = word(s, 2)?.value;
     if 1 < k {
         return Err(Unread::Bad);
     }
-    let other = aside_of(p.away, k);
-    Ok(of_other(p, other, with_aside(p.away, k, own_of(p))))
+    let own = own_of(p);
+    let other = aside_of(p, k);
+    lend_other(p, other);
+    put_aside(p, k, own);
+    Ok(())
 }

@@ -15,7 +15,6 @@ struct Spot {
     next: usize,
     fill: usize,
     more: bool,
-    scene: Scene,
 }
 
 // A write that fails is passed over.
@@ -35,24 +34,30 @@ fn flush(screen: Stdout, page: &mut Page<'_>) {
 }
 
 // A line that is longer than its room is not played.
-fn end(screen: Stdout, line: &[u8], fill: usize, p: Scene, page: &mut Page<'_>) -> Scene {
+fn end(screen: Stdout, line: &[u8], fill: usize, scene: &mut Scene, page: &mut Page<'_>) {
     let n = within(line, fill);
     if n < fill {
         print::unplayed(Unread::Large, page);
-        return p;
+        return;
     }
-    let q = stage::line(&line[..n], p, page);
+    stage::line(&line[..n], scene, page);
     flush(screen, page);
-    q
 }
 
-fn next(screen: Stdout, chunk: &[u8], line: &mut [u8], p: Spot, page: &mut Page<'_>) -> Spot {
+fn next(
+    screen: Stdout,
+    chunk: &[u8],
+    line: &mut [u8],
+    p: Spot,
+    scene: &mut Scene,
+    page: &mut Page<'_>,
+) -> Spot {
     let t = lines::feed::line(chunk, p.next, line, p.fill);
     if t.ended {
+        end(screen, line, t.fill, scene, page);
         return Spot {
             next: t.next,
             fill: 0,
-            scene: end(screen, line, t.fill, p.scene, page),
             ..p
         };
     }
@@ -64,24 +69,38 @@ fn next(screen: Stdout, chunk: &[u8], line: &mut [u8], p: Spot, page: &mut Page<
 }
 
 // A chunk has no more lines than bytes.
-fn feed(screen: Stdout, chunk: &[u8], line: &mut [u8], p: Spot, page: &mut Page<'_>) -> Spot {
+fn feed(
+    screen: Stdout,
+    chunk: &[u8],
+    line: &mut [u8],
+    p: Spot,
+    scene: &mut Scene,
+    page: &mut Page<'_>,
+) -> Spot {
     let mut q = Spot { next: 0, ..p };
     for _ in 0..chunk.len() {
         if chunk.len() <= q.next {
             return q;
         }
-        q = next(screen, chunk, line, q, page);
+        q = next(screen, chunk, line, q, scene, page);
     }
     q
 }
 
 // One read. At the end of the input, or where a read fails, what is left of the text is written out; a last line with no end is
 // not played.
-fn some(mut input: Stdin, screen: Stdout, line: &mut [u8], p: Spot, page: &mut Page<'_>) -> Spot {
+fn some(
+    mut input: Stdin,
+    screen: Stdout,
+    line: &mut [u8],
+    p: Spot,
+    scene: &mut Scene,
+    page: &mut Page<'_>,
+) -> Spot {
     let mut chunk: [u8; 65536] = filled(0);
     let n = input.read(&mut chunk).unwrap_or(0);
     if n > 0 {
-        return feed(screen, &chunk[..n], line, p, page);
+        return feed(screen, &chunk[..n], line, p, scene, page);
     }
     write_out(screen, page);
     Spot { more: false, ..p }
@@ -90,16 +109,16 @@ fn some(mut input: Stdin, screen: Stdout, line: &mut [u8], p: Spot, page: &mut P
 // Nothing says that the input ends, so the turns are bounded by a number that no run uses up.
 pub(crate) fn all(input: Stdin, screen: Stdout, line: &mut [u8], text: &mut [u8]) {
     let mut page = Page { out: text, at: 0 };
+    let mut scene = room::nothing();
     let mut p = Spot {
         next: 0,
         fill: 0,
         more: true,
-        scene: room::nothing(),
     };
     for _ in 0..u64::MAX {
         if !p.more {
             return;
         }
-        p = some(input, screen, line, p, &mut page);
+        p = some(input, screen, line, p, &mut scene, &mut page);
     }
 }

@@ -1,5 +1,5 @@
 // Document 02, #107: packed rooms.
-use crate::away::{exchange, kept, packed_of};
+use crate::away::{exchange, keep, packed_of};
 use crate::item::word;
 use crate::room::{Packed, Scene};
 use crate::{junk, print};
@@ -33,7 +33,7 @@ fn soiled(len: usize, count: usize, seed: u64) -> Packed {
     }
 }
 
-fn lend(s: &[u8], p: Scene) -> Result<Scene, Unread> {
+fn lend(s: &[u8], p: &mut Scene) -> Result<(), Unread> {
     let k = which(s)?;
     let a = word(s, k.next)?;
     let b = word(s, a.next)?;
@@ -42,7 +42,8 @@ fn lend(s: &[u8], p: Scene) -> Result<Scene, Unread> {
         return Err(Unread::Large);
     }
     let lent = soiled(a.value as usize, b.value as usize, seed.value);
-    Ok(kept(p, k.value, lent))
+    keep(p, k.value, lent);
+    Ok(())
 }
 
 fn put<T: Copy>(v: &mut [T], i: usize, x: T) {
@@ -63,28 +64,28 @@ fn spoilt(b: Packed, op: u8, i: usize, x: u64) -> Packed {
     Packed { room, places, ..b }
 }
 
-fn spoil(s: &[u8], op: u8, p: Scene) -> Result<Scene, Unread> {
+fn spoil(s: &[u8], op: u8, p: &mut Scene) -> Result<(), Unread> {
     let k = which(s)?;
     let i = word(s, k.next)?;
     let x = word(s, i.next)?;
-    let b = packed_of(p.away, k.value);
+    let b = packed_of(p, k.value);
     let len = if op == b'V' { b.len } else { b.count };
     let at = i.value as usize;
     if len <= at {
         return Err(Unread::Large);
     }
-    Ok(kept(p, k.value, spoilt(b, op, at, x.value)))
+    keep(p, k.value, spoilt(b, op, at, x.value));
+    Ok(())
 }
 
-// What a packing or an unpacking left, and what it answered.
+// What a packing or an unpacking left in the packed room, and what it answered.
 #[derive(Clone, Copy)]
 struct Left {
-    scene: Scene,
     packed: Packed,
     answer: Result<(), Refusal>,
 }
 
-fn pack(p: Scene, b: Packed) -> Left {
+fn pack(p: &mut Scene, b: Packed) -> Left {
     let mut room = b.room;
     let mut places = b.places;
     let k = within(&p.store, p.lent.store);
@@ -98,17 +99,14 @@ fn pack(p: Scene, b: Packed) -> Left {
         &mut room[..r],
         &mut places[..q],
     );
+    p.state = t.state;
     Left {
-        scene: Scene {
-            state: t.state,
-            ..p
-        },
         packed: Packed { room, places, ..b },
         answer: t.answer,
     }
 }
 
-fn unpack(p: Scene, b: Packed) -> Left {
+fn unpack(p: &mut Scene, b: Packed) -> Left {
     let mut store = p.store;
     let mut order = p.order;
     let k = within(&store, p.lent.store);
@@ -122,28 +120,25 @@ fn unpack(p: Scene, b: Packed) -> Left {
         &mut store[..k],
         &mut order[..o],
     );
+    p.store = store;
+    p.order = order;
+    p.state = t.state;
     Left {
-        scene: Scene {
-            store,
-            order,
-            state: t.state,
-            ..p
-        },
         packed: b,
         answer: t.answer,
     }
 }
 
-fn call(s: &[u8], op: u8, p: Scene, page: &mut Page<'_>) -> Result<Scene, Unread> {
+fn call(s: &[u8], op: u8, p: &mut Scene, page: &mut Page<'_>) -> Result<(), Unread> {
     let k = which(s)?.value;
-    let b = packed_of(p.away, k);
+    let b = packed_of(p, k);
     let left = if op == b'B' { pack(p, b) } else { unpack(p, b) };
-    let scene = kept(left.scene, k, left.packed);
-    print::packing(left.answer, left.packed, scene, page);
-    Ok(scene)
+    keep(p, k, left.packed);
+    print::packing(left.answer, left.packed, p, page);
+    Ok(())
 }
 
-pub(crate) fn line(s: &[u8], op: u8, p: Scene, page: &mut Page<'_>) -> Result<Scene, Unread> {
+pub(crate) fn line(s: &[u8], op: u8, p: &mut Scene, page: &mut Page<'_>) -> Result<(), Unread> {
     match op {
         b'X' => exchange(s, p),
         b'J' => lend(s, p),

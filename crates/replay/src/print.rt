@@ -108,7 +108,7 @@ fn state(st: State, page: &mut Page<'_>) {
 }
 
 // The lent rooms, which are exactly as long as they were lent.
-fn rooms(p: Scene, page: &mut Page<'_>) {
+fn rooms(p: &Scene, page: &mut Page<'_>) {
     let k = within(&p.store, p.lent.store);
     let o = within(&p.order, p.lent.order);
     let b = within(&p.bench, p.lent.bench);
@@ -133,7 +133,7 @@ fn extra(x: Extra, page: &mut Page<'_>) {
 }
 
 // What an item answered, and after a call the rooms.
-pub(crate) fn item(a: After, p: Scene, page: &mut Page<'_>) {
+pub(crate) fn item(a: After, p: &Scene, page: &mut Page<'_>) {
     let Some(reply) = a.reply else {
         return;
     };
@@ -143,7 +143,7 @@ pub(crate) fn item(a: After, p: Scene, page: &mut Page<'_>) {
 }
 
 // What a packing or an unpacking answered, the packed room, and the rooms.
-pub(crate) fn packing(a: Result<(), Refusal>, b: Packed, p: Scene, page: &mut Page<'_>) {
+pub(crate) fn packing(a: Result<(), Refusal>, b: Packed, p: &Scene, page: &mut Page<'_>) {
     let r = within(&b.room, b.len);
     let q = within(&b.places, b.count);
     answer(a.map(Reply::from), page);

@@ -40,8 +40,7 @@ pub(crate) struct Away {
     pub(crate) third: Packed,
 }
 
-// The rooms, whose first parts are lent, and the state. It goes from function to function by value: a call that is lent many slices at once
-// takes the proof check long.
+// The rooms, whose first parts are lent, and the state. It is lent from function to function: by value each line would copy 34 KB some times.
 #[derive(Clone, Copy)]
 pub(crate) struct Scene {
     pub(crate) store: [f64; 384],

@@ -8,27 +8,16 @@ use lines::scan::{Unread, byte};
 use text::put::Page;
 
 // The rooms with other lengths lent, full of junk in the oracle's order: the store, the bench, the output, the order list.
-fn soiled(p: Scene, lent: Lent, seed: u64) -> Scene {
-    let mut store = p.store;
-    let mut order = p.order;
-    let mut bench = p.bench;
-    let mut out = p.out;
-    let one = junk::doubles(&mut store, lent.store, seed);
-    let two = junk::doubles(&mut bench, lent.bench, one);
-    let three = junk::doubles(&mut out, lent.out, two);
-    junk::places(&mut order, lent.order, three);
-    Scene {
-        store,
-        order,
-        bench,
-        out,
-        lent,
-        state: empty(),
-        ..p
-    }
+fn soil(p: &mut Scene, lent: Lent, seed: u64) {
+    let one = junk::doubles(&mut p.store, lent.store, seed);
+    let two = junk::doubles(&mut p.bench, lent.bench, one);
+    let three = junk::doubles(&mut p.out, lent.out, two);
+    junk::places(&mut p.order, lent.order, three);
+    p.lent = lent;
+    p.state = empty();
 }
 
-fn lent(s: &[u8], p: Scene) -> Result<Scene, Unread> {
+fn lend(s: &[u8], p: &mut Scene) -> Result<(), Unread> {
     let a = word(s, 2)?;
     let b = word(s, a.next)?;
     let c = word(s, b.next)?;
@@ -41,30 +30,23 @@ fn lent(s: &[u8], p: Scene) -> Result<Scene, Unread> {
         out: d.value as usize,
     };
     if fits(lent) {
-        return Ok(soiled(p, lent, seed.value));
+        soil(p, lent, seed.value);
+        return Ok(());
     }
     Err(Unread::Large)
 }
 
 // Where a length does not fit its room nothing is lent.
-fn lend(s: &[u8], p: Scene, page: &mut Page<'_>) -> Scene {
-    match lent(s, p) {
-        Ok(q) => q,
-        Err(why) => {
-            print::unplayed(why, page);
-            bare(p.away)
-        }
+fn lend_or_none(s: &[u8], p: &mut Scene, page: &mut Page<'_>) {
+    if let Err(why) = lend(s, p) {
+        print::unplayed(why, page);
+        *p = bare(p.away);
     }
 }
 
-// What an item left in the rooms, and what it answered.
-#[derive(Clone, Copy)]
-struct Left {
-    scene: Scene,
-    after: After,
-}
-
-fn played(s: &[u8], p: Scene) -> Result<Left, Unread> {
+// An item that is not played leaves the rooms as they were. They are copied out and back, since the kit lends one field of a lent struct at a
+// time.
+fn played(s: &[u8], p: &mut Scene) -> Result<After, Unread> {
     let mut store = p.store;
     let mut order = p.order;
     let mut bench = p.bench;
@@ -81,42 +63,36 @@ fn played(s: &[u8], p: Scene) -> Result<Left, Unread> {
         &mut bench[..b],
         &mut out[..u],
     )?;
-    let scene = Scene {
-        store,
-        order,
-        bench,
-        out,
-        state: after.state,
-        ..p
-    };
-    Ok(Left { scene, after })
+    p.store = store;
+    p.order = order;
+    p.bench = bench;
+    p.out = out;
+    p.state = after.state;
+    Ok(after)
 }
 
-fn item(s: &[u8], p: Scene, page: &mut Page<'_>) -> Result<Scene, Unread> {
-    let q = played(s, p)?;
-    print::item(q.after, q.scene, page);
-    Ok(q.scene)
+fn item(s: &[u8], p: &mut Scene, page: &mut Page<'_>) -> Result<(), Unread> {
+    let after = played(s, p)?;
+    print::item(after, p, page);
+    Ok(())
 }
 
-pub(crate) fn line(s: &[u8], p: Scene, page: &mut Page<'_>) -> Scene {
+pub(crate) fn line(s: &[u8], p: &mut Scene, page: &mut Page<'_>) {
     let op = byte(s, 0);
     if op == b'R' {
-        return lend(s, p, page);
+        lend_or_none(s, p, page);
+        return;
     }
     if op == b'.' {
         page.bytes(b".\n");
-        return p;
+        return;
     }
-    let q = if pack::is_of(op) {
+    let left = if pack::is_of(op) {
         pack::line(s, op, p, page)
     } else {
         item(s, p, page)
     };
-    match q {
-        Ok(left) => left,
-        Err(why) => {
-            print::unplayed(why, page);
-            p
-        }
+    if let Err(why) = left {
+        print::unplayed(why, page);
     }
 }
