@@ -14,7 +14,7 @@ use Rattle.leaves.specs.Reply.{refused, refusal_number}
 use Rattle.leaves.proofs.Replies.{refusal_number-some}
 use Rattle.leaves.specs.Square.{zeros}
 use Rattle.leaves.specs.Tests.{Test, first_of, none_zero, all_finite}
-use Rattle.leaves.proofs.Refusals.{test_met, went_to, past, passed_iff}
+use Rattle.leaves.proofs.Refusals.{stopped, test_met, went_to, past, passed_iff}
 use Rattle.leaves.proofs.Insides.{neither}
 use Rattle.frozen.specs.Frozen.{free_of}
 use Rattle.factor.specs.State.{store_need}
@@ -42,6 +42,9 @@ module _ (st : State) (store : ℕ) (order : List ℕ) (diag : List Float) (radi
 
   pub tested : {c : ℕ} → c ≡ first_of (marked_solve_tests st store order k) → c ≡ first_of first
   tested e = e ∙ ap (λ (j : ℕ). first_of (marked_solve_tests st store order j)) m
+
+  pub first_met : {c : ℕ} → c ≡ first_of (marked_solve_tests st store order k) → (c ≡ 0 → ⊥) → c ≡ all
+  first_met {c} e h = sym (stopped first numbers c (tested e) h)
 
   module _ (e : 0 ≡ first_of (marked_solve_tests st store order k)) where
     pub diag_long : st.n ≤ length diag

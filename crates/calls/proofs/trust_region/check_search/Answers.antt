@@ -2,17 +2,16 @@ use mathlib.Core.Path.{sym, ap, ◌∙◌}
 use mathlib.Core.Bool.{not}
 use lib.Ieee.{of_bits}
 use lib.Seq.{length-take-le}
-use Rattle.calls.proofs.Passed.{first_failed}
-use Rattle.calls.proofs.Searches.{first, numbers, tested, diag_long, diag_met, radius_met, lambda_met, above_met, below_met, zero_met, free_met}
+use Rattle.std.proofs.lemmas.Result.{err_from_is_err_and}
+use Rattle.leaves.proofs.Replies.{refusal_number-some}
+use Rattle.calls.proofs.Searches.{first_met, diag_long, diag_met, radius_met, lambda_met, above_met, below_met, zero_met, free_met}
 use Rattle.calls.proofs.trust_region.check_search.Goals as goal
 
 pub returns-in_err-ordered : goal.returns-in_err-ordered
 returns-in_err-ordered c =
     let g = c.args in
-    let m = c.least.ensures in
-    let ts = first g.st g.store g.order.now g.diag.now g.radius g.lambda g.out m in
-    let us = numbers g.st g.store g.order.now g.diag.now g.radius g.lambda g.out m in
-    first_failed ts us _ _ c.from_residual.ensures.1 (tested g.st g.store g.order.now g.diag.now g.radius g.lambda g.out m c.in_err-ordered.ensures)
+    let p = err_from_is_err_and c.from_residual.result c.from_residual.ensures.1 in
+    rw (p.1, p.2) (first_met g.st g.store g.order.now g.diag.now g.radius g.lambda g.out c.least.ensures c.in_err-ordered.ensures (refusal_number-some _))
 
 pub slice_bounds-all_finite-end : goal.slice_bounds-all_finite-end
 slice_bounds-all_finite-end c =
