@@ -78,9 +78,9 @@ here=$(dirname "$(readlink -f "$0")")
 echo "$*" >>"$here/asked"
 exec 3>&1
 [ "$1" != run ] || exec >&2
+source=$(cat src/main.rt 2>/dev/null)
 mkdir "$here/busy" 2>/dev/null || { echo 'logic=not-proved: two at once'; exit 1; }
 trap 'rmdir "$here/busy"' EXIT
-source=$(cat src/main.rt 2>/dev/null)
 while read -r line; do
     case $line in wait) sleep 2.5 ;; rest) sleep 1 ;; stay) echo $$ >"$here/stays"; sleep 60 ;; [1-9]) exit "$line" ;; 0) ;; *) echo "$line" ;; esac
 done <"$here/says"
